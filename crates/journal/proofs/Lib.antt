@@ -4,3 +4,16 @@ pub mod Coding
 pub mod Whole
 pub mod Stops
 pub mod Fastened
+pub mod Alike
+pub mod Replay
+pub mod Stored
+pub mod Through
+pub mod Waiting
+pub mod Compaction
+pub mod Contents
+pub mod Generations
+pub mod Recovery
+pub mod Lifecycle
+pub mod Bounds
+pub mod Small
+pub mod Room

@@ -11,6 +11,7 @@ use lib.ListN.{length, take, drop, length-append}
 use lib.Seq.{take-append-add, drop-append-add, take-nil, drop-nil}
 use Rattle.plain.specs.Pattern.{pick}
 use Rattle.plain.specs.Device.{Device, Page, Tape, tape, lesser, half, left, stopped, so-many-of}
+use Rattle.journal.specs.Log.{halved}
 
 -- of the loose records those that stay
 abbrev pub surviving : List Page → ℕ → ℕ → List Page
@@ -36,9 +37,6 @@ left-fast xs n h =
     ap (λ z. left (tape z 0) n h) (sym (append-nil xs)) ∙ left-split xs [] n h ∙ ap (λ z. tape (xs ++ z) 0) (surviving-none n h) ∙ ap (λ z. tape z 0) (append-nil xs)
 
 -- one loose record: it's gone, or it's there, or its first half is
-abbrev pub halved : Page → Page
-halved p = take 256 p ++ so-many-of 256 0
-
 half-or-none : (p : Page) (b : Bool) → (pick b (halved p ∷ []) [] ≡ []) ⊎ ((pick b (halved p ∷ []) [] ≡ p ∷ []) ⊎ (pick b (halved p ∷ []) [] ≡ halved p ∷ []))
 half-or-none p true = inr (inr refl)
 half-or-none p false = inl refl
