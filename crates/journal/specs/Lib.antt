@@ -1,0 +1,4 @@
+pub mod Machine
+pub mod Log
+pub mod Small
+pub mod Room
