@@ -1,2 +1,4 @@
 pub mod Lists
 pub mod Resolved
+pub mod Files
+pub mod Rings
