@@ -2,3 +2,4 @@ pub mod Lists
 pub mod Resolved
 pub mod Files
 pub mod Rings
+pub mod Texts
