@@ -3,3 +3,5 @@ pub mod Resolved
 pub mod Files
 pub mod Rings
 pub mod Texts
+pub mod Brought
+pub mod Alike
