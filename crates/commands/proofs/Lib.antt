@@ -5,3 +5,6 @@ pub mod Rings
 pub mod Texts
 pub mod Brought
 pub mod Alike
+pub mod Filed
+
+pub mod Turned

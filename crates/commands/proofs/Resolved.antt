@@ -170,3 +170,56 @@ where-same s last c h =
 
 pub bounds-worded : (count at : ℕ) (c : Simple) → Worded (command-bounds count at c)
 bounds-worded count at c = range-worded count at (c .range) (default-bounds count at (c .deed))
+
+-- the first is at most one more than the last
+abbrev pub Ordered : Checked Bounds → Type 0
+Ordered (good b) = b .first ≤ suc (b .last)
+Ordered (refused k) = zero ≡ zero
+
+order-ordered : (n m : ℕ) → Ordered (in-order n m)
+order-ordered n m = go (leb n m) refl
+  where
+    go : (t : Bool) → leb n m ≡ t → Ordered (check t 4 (good (bounds n m)))
+    go true e = omega (arith, leb-true n m e)
+    go false e = refl
+
+then-ordered : (c : Checked ℕ) (f : ℕ → Checked Bounds) → ((n : ℕ) → Ordered (f n)) → Ordered (then c f)
+then-ordered (good n) f g = g n
+then-ordered (refused k) f g = refl
+
+pub range-ordered : (count at : ℕ) (r : Range) (b : Bounds) → b .first ≤ suc (b .last) → Ordered (resolve-range count at r b)
+unfolding resolve-range
+range-ordered count at r b h =
+    let two : (n m : ℕ) → Ordered (then (resolve-plain count m (r .second)) (λ i. in-order n i)) = λ n m. then-ordered (resolve-plain count m (r .second)) _ (λ i. order-ordered n i) in
+    let one : (n : ℕ) → n ≤ suc n = λ n. omega arith in
+    let all : 1 ≤ suc count = omega arith in
+    pick-both Ordered (eqb (r .kind) 0) _ _ h
+      (pick-both Ordered (eqb (r .kind) 1) _ _ (then-ordered (resolve-plain count at (r .first)) _ (λ n. one n))
+      (pick-both Ordered (eqb (r .kind) 2) _ _ (then-ordered (resolve-plain count at (r .first)) _ (λ n. two n at))
+      (pick-both Ordered (eqb (r .kind) 3) _ _ (then-ordered (resolve-plain count at (r .first)) _ (λ n. two n n)) all)))
+
+pub default-ordered : (count at : ℕ) (d : Deed) → default-bounds count at d .first ≤ suc (default-bounds count at d .last)
+unfolding default-bounds
+default-ordered count at (append ls) = omega arith
+default-ordered count at (insert ls) = omega arith
+default-ordered count at (change ls) = omega arith
+default-ordered count at delete = omega arith
+default-ordered count at join = omega arith
+default-ordered count at (move a) = omega arith
+default-ordered count at (copy a) = omega arith
+default-ordered count at (mark c) = omega arith
+default-ordered count at print = omega arith
+default-ordered count at number = omega arith
+default-ordered count at where-is = omega arith
+default-ordered count at (swap p r k) = omega arith
+default-ordered count at go-to = omega arith
+default-ordered count at undo = omega arith
+default-ordered count at redo = omega arith
+default-ordered count at (save n) = omega arith
+default-ordered count at (edit n) = omega arith
+default-ordered count at (load n) = omega arith
+default-ordered count at files = omega arith
+default-ordered count at bad = omega arith
+
+pub bounds-ordered : (count at : ℕ) (c : Simple) → Ordered (command-bounds count at c)
+bounds-ordered count at c = range-ordered count at (c .range) (default-bounds count at (c .deed)) (default-ordered count at (c .deed))

@@ -70,6 +70,20 @@ pub record Replaced (w w₁ : Plain) (a b at : ℕ) (ls : List (List ℕ)) : Typ
   pub files : w₁ .kept ≡ w .kept
   pub next : w₁ .next ≡ w .next + length ls
 
+-- a house in which the text stayed, the files perhaps not
+pub record Quiet (w w₁ : Plain) (at : ℕ) (fs : List File) : Type 0 where
+  pub lines : w₁ .now .lines ≡ w .now .lines
+  pub current : w₁ .now .at ≡ at
+  pub before : w₁ .before ≡ w .before
+  pub undone : w₁ .undone ≡ w .undone
+  pub files : w₁ .kept ≡ fs
+  pub next : w₁ .next ≡ w .next
+
+pub record Files-sound (fs : List File) : Type 0 where
+  pub files-fit : every fit-file fs ≡ true
+  pub few-files : length fs ≤ 64
+  pub names-differ : other-names fs ≡ true
+
 pub put-bytes : (s : Stand) (n a b : ℕ) (ls : List (List ℕ)) → bytes-of (put-lines s a b (new-lines n ls)) ≡ with-lines a b ls (bytes-of (s .lines))
 put-bytes s n a b ls =
     let f = λ (l : Line). l .bytes in
@@ -139,24 +153,10 @@ module _ (w : Plain) (k : Kept) (h : Held w k) where
           current = simp (length-append, length-take, length-drop) (omega arith);
           few-stands = pushed-few (k .ring) n (h .sound .few-stands) } }
 
-  -- the text stays, the files perhaps not
-  pub record Quiet (w₁ : Plain) (at : ℕ) (fs : List File) : Type 0 where
-    pub lines : w₁ .now .lines ≡ w .now .lines
-    pub current : w₁ .now .at ≡ at
-    pub before : w₁ .before ≡ w .before
-    pub undone : w₁ .undone ≡ w .undone
-    pub files : w₁ .kept ≡ fs
-    pub next : w₁ .next ≡ w .next
-
-  pub record Files-sound (fs : List File) : Type 0 where
-    pub files-fit : every fit-file fs ≡ true
-    pub few-files : length fs ≤ 64
-    pub names-differ : other-names fs ≡ true
-
   pub same-files : Files-sound (k .files)
   same-files = record { files-fit = h .sound .files-fit; few-files = h .sound .few-files; names-differ = h .sound .names-differ }
 
-  pub quiet-held : (w₁ : Plain) (at : ℕ) (fs : List File) → at ≤ how-many (w .now) → Files-sound fs → Quiet w₁ at fs → Held w₁ (kept (k .text) at fs (k .ring))
+  pub quiet-held : (w₁ : Plain) (at : ℕ) (fs : List File) → at ≤ how-many (w .now) → Files-sound fs → Quiet w w₁ at fs → Held w₁ (kept (k .text) at fs (k .ring))
   quiet-held w₁ at fs al f q =
       let cs = count-same in
       record {
