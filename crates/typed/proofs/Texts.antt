@@ -151,11 +151,11 @@ lines-unbroken l [] h m (inr i) = absurd i
 lines-unbroken l (c ∷ cs) h m i =
     ⊎-elim
     (λ e.
-        let j : In m (l ∷ lines-of [] cs) = subst (λ (b : Bool). In m (pick b (l ∷ lines-of [] cs) (lines-of (l ++ c ∷ []) cs))) e i in
-        elim j [ inl q ↦ subst Unbroken q h | inr k ↦ lines-unbroken [] cs refl m k ])
+    let j : In m (l ∷ lines-of [] cs) = subst (λ (b : Bool). In m (pick b (l ∷ lines-of [] cs) (lines-of (l ++ c ∷ []) cs))) e i in
+    elim j [ inl q ↦ subst Unbroken q h | inr k ↦ lines-unbroken [] cs refl m k ])
     (λ e.
-        lines-unbroken (l ++ c ∷ []) cs (any-append (eqb 10) l c h (ne-eqb 10 c (λ q. let t = eq-eqb c 10 (sym q) in absurd (true≢false (sym t ∙ e))))) m
-        (subst (λ (b : Bool). In m (pick b (l ∷ lines-of [] cs) (lines-of (l ++ c ∷ []) cs))) e i))
+    lines-unbroken (l ++ c ∷ []) cs (any-append (eqb 10) l c h (ne-eqb 10 c (λ q. let t = eq-eqb c 10 (sym q) in absurd (true≢false (sym t ∙ e))))) m
+    (subst (λ (b : Bool). In m (pick b (l ∷ lines-of [] cs) (lines-of (l ++ c ∷ []) cs))) e i))
     (cases-bool (eqb c 10))
 
 -- the lines with a newline behind each but the last are the text
@@ -179,3 +179,21 @@ text-back l (c ∷ cs) =
     (λ e. rw e (text-more l (lines-of [] cs) (some-line [] cs) ∙ (λ i. l ++ sym (eqb-true c 10 e) i ∷ text-back [] cs i)))
     (λ e. rw e (text-back (l ++ c ∷ []) cs ∙ append-assoc l (c ∷ []) cs))
     (cases-bool (eqb c 10))
+
+-- how many lines there are does not hang on what was read of the first
+pub lines-count : (l m cs : List ℕ) → length (lines-of l cs) ≡ length (lines-of m cs)
+unfolding lines-of
+lines-count l m [] = refl
+lines-count l m (c ∷ cs) = ⊎-elim (λ e. rw e) (λ e. rw e (lines-count (l ++ c ∷ []) (m ++ c ∷ []) cs)) (cases-bool (eqb c 10))
+
+-- one byte on, counted
+module _ (i : ℕ) (cs : List ℕ) (within : i < length cs) where
+  pub count-newline : getD cs i 0 ≡ 10 → length (lines-of [] (drop i cs)) ≡ suc (length (lines-of [] (drop (i + 1) cs)))
+  count-newline is = ap (λ ds. length (lines-of [] ds)) (drop-more cs i 0 within ∙ ap (λ c. c ∷ drop (i + 1) cs) is) ∙ ap length (at-newline [] (drop (i + 1) cs))
+
+  pub count-byte : (getD cs i 0 ≡ 10 → ⊥) → length (lines-of [] (drop i cs)) ≡ length (lines-of [] (drop (i + 1) cs))
+  count-byte other =
+      ap (λ ds. length (lines-of [] ds)) (drop-more cs i 0 within) ∙ ap length (at-byte (getD cs i 0) [] (drop (i + 1) cs) other) ∙ lines-count (getD cs i 0 ∷ []) [] (drop (i + 1) cs)
+
+pub count-end : (i : ℕ) (cs : List ℕ) → length cs ≤ i → length (lines-of [] (drop i cs)) ≡ 1
+count-end i cs past = ap (λ ds. length (lines-of [] ds)) (drop-all i cs past) ∙ ap length (at-end [])
