@@ -12,7 +12,9 @@ use std::alloc::Global;
 use std::env;
 
 const LEAST_ROOM: u64 = 1_024;
+
 const MOST_ROOM: u64 = 1_048_576;
+
 const USUAL_ROOM: u64 = 65_536;
 
 /// The two files and how many records each has room for.
@@ -48,7 +50,11 @@ fn with_names(heap: Global, room: u64, names: Vec<String>) -> Result<Options, Fa
             if first.as_str() == second.as_str() {
                 return Err(Fault::Usage(Misuse::SameFile));
             }
-            Ok(Options { room, first, second })
+            Ok(Options {
+                room,
+                first,
+                second,
+            })
         }
         _ => Err(Fault::Usage(Misuse::Files)),
     }
@@ -57,7 +63,11 @@ fn with_names(heap: Global, room: u64, names: Vec<String>) -> Result<Options, Fa
 fn usual(heap: Global, room: u64) -> Result<Options, AllocError> {
     let first = String::from_str(heap, "house.0")?;
     let second = String::from_str(heap, "house.1")?;
-    Ok(Options { room, first, second })
+    Ok(Options {
+        room,
+        first,
+        second,
+    })
 }
 
 fn said_room(text: &str) -> Result<u64, Fault> {

@@ -52,7 +52,11 @@ pub struct Session {
 impl Session {
     pub fn open(rt: &LibcRuntime, options: Options) -> Result<Session, Fault> {
         let heap = rt.alloc();
-        let Options { room, first, second } = options;
+        let Options {
+            room,
+            first,
+            second,
+        } = options;
         Ok(Session {
             heap,
             room,
@@ -90,7 +94,12 @@ impl Session {
 
     /// One event, and all acts that follow from it.
     fn tell(&mut self, event: Event, bytes: &[u8], rows: Rows) -> Result<End, Fault> {
-        let mut told = house::step(self.memory.as_mut_slice(), event as u64, bytes, self.row.as_mut_slice());
+        let mut told = house::step(
+            self.memory.as_mut_slice(),
+            event as u64,
+            bytes,
+            self.row.as_mut_slice(),
+        );
         for _ in 0..u64::MAX {
             told = match self.act(told, rows)? {
                 After::Record => self.step_record(),
@@ -102,11 +111,21 @@ impl Session {
     }
 
     fn step_record(&mut self) -> Told {
-        house::step(self.memory.as_mut_slice(), Event::Record as u64, self.page.as_slice(), self.row.as_mut_slice())
+        house::step(
+            self.memory.as_mut_slice(),
+            Event::Record as u64,
+            self.page.as_slice(),
+            self.row.as_mut_slice(),
+        )
     }
 
     fn step_next(&mut self) -> Told {
-        house::step(self.memory.as_mut_slice(), Event::Next as u64, &[], self.row.as_mut_slice())
+        house::step(
+            self.memory.as_mut_slice(),
+            Event::Next as u64,
+            &[],
+            self.row.as_mut_slice(),
+        )
     }
 
     /// Does one act.
@@ -137,7 +156,8 @@ impl Session {
         if len > self.row.len() as u64 {
             return Err(Fault::House(Astray::Row));
         }
-        self.console.show(rows, &self.row.as_slice()[0..len as usize])?;
+        self.console
+            .show(rows, &self.row.as_slice()[0..len as usize])?;
         Ok(())
     }
 }

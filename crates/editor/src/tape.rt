@@ -18,7 +18,9 @@ use std::path::Path;
 
 /// How many bytes a record has.
 pub const RECORD: usize = 512;
+
 const BYTES: u64 = 512;
+
 const ZEROS: [u8; 512] = [0; 512];
 
 /// How many zeros a file of so many bytes lacks for its last record to be whole.
@@ -40,11 +42,7 @@ fn count(len: u64) -> u64
     ensures tight { λ r. ⌜ 512 * r < len + 512 ⌝ }
 {
     let whole = len / BYTES;
-    if len % BYTES == 0 {
-        whole
-    } else {
-        whole + 1
-    }
+    if len % BYTES == 0 { whole } else { whole + 1 }
 }
 
 /// The folder of a file is made durable, so that a file that was made just now is found after a power cut.
@@ -69,14 +67,25 @@ impl Tape {
     /// The file of that name, which is made if it isn't there. Nothing is written yet.
     pub fn open(rt: &LibcRuntime, name: String, room: u64) -> Result<Tape, Fault> {
         let mut how = OpenOptions::new();
-        let opened = how.read(true).append(true).create(true).open(rt, name.as_str());
+        let opened = how.read(true)
+            .append(true)
+            .create(true)
+            .open(rt, name.as_str());
         let file = match opened {
             Ok(file) => file,
-            Err(reason) => return Err(Fault::File { name, doing: Doing::Open, reason }),
+            Err(reason) => return Err(Fault::File {
+                name,
+                doing: Doing::Open,
+                reason,
+            }),
         };
         match file.metadata() {
             Ok(facts) => Tape::measured(file, facts, name, room),
-            Err(reason) => Err(Fault::File { name, doing: Doing::Open, reason }),
+            Err(reason) => Err(Fault::File {
+                name,
+                doing: Doing::Open,
+                reason,
+            }),
         }
     }
 
@@ -89,12 +98,21 @@ impl Tape {
         if records > room {
             return Err(Fault::TooLong { name, room });
         }
-        Ok(Tape { file, name, records, room })
+        Ok(Tape {
+            file,
+            name,
+            records,
+            room,
+        })
     }
 
     fn fault(&self, doing: Doing, reason: io::Error) -> Fault {
         match self.name.clone() {
-            Ok(name) => Fault::File { name, doing, reason },
+            Ok(name) => Fault::File {
+                name,
+                doing,
+                reason,
+            },
             Err(_) => Fault::Memory,
         }
     }
@@ -135,7 +153,8 @@ impl Tape {
     }
 
     fn read_at(&mut self, record: u64, page: &mut [u8]) -> io::Result<()> {
-        self.file.seek(SeekFrom::Start(record.saturating_mul(BYTES)))?;
+        self.file
+            .seek(SeekFrom::Start(record.saturating_mul(BYTES)))?;
         self.file.read_exact(page)
     }
 
@@ -187,7 +206,12 @@ pub struct Tapes {
 
 impl Tapes {
     /// Both files, opened and looked at before either is written.
-    pub fn open(rt: &LibcRuntime, first: String, second: String, room: u64) -> Result<Tapes, Fault> {
+    pub fn open(
+        rt: &LibcRuntime,
+        first: String,
+        second: String,
+        room: u64,
+    ) -> Result<Tapes, Fault> {
         let mut first = Tape::open(rt, first, room)?;
         let mut second = Tape::open(rt, second, room)?;
         first.mend(rt)?;

@@ -62,7 +62,11 @@ fn read_given(heap: Global, console: &mut Console, text: &mut Vec<u8>) -> Result
 }
 
 /// The next command in place of what `text` holds. False where the input has ended.
-pub fn read_command(heap: Global, console: &mut Console, text: &mut Vec<u8>) -> Result<bool, Fault> {
+pub fn read_command(
+    heap: Global,
+    console: &mut Console,
+    text: &mut Vec<u8>,
+) -> Result<bool, Fault> {
     text.clear();
     if !console.read_line(text)? {
         return Ok(false);
