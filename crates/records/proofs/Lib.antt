@@ -1,0 +1,6 @@
+pub mod Digits
+pub mod Pages
+pub mod Lines
+pub mod Laws
+pub mod Writing
+pub mod Commits
