@@ -4,3 +4,4 @@ pub mod Lines
 pub mod Laws
 pub mod Writing
 pub mod Commits
+pub mod Fits

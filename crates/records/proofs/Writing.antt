@@ -45,16 +45,20 @@ pub fours-all : (ns out : List ℕ) (i : ℕ) → length ns ≤ i → length out
 fours-all ns out i h k = rw (take-all i ns h, drop-all (4 * i) out (omega arith)) (append-nil (fours ns))
 
 -- the end of a page
-last-set : (front out : List ℕ) (e : ℕ) → length front ≡ e → e + 1 ≡ length out → set (front ++ drop e out) e 1 ≡ front ++ 1 ∷ []
-last-set front out e l h =
-    let y : drop e out ≡ getD out e 0 ∷ [] = drop-more out e 0 (omega arith) ∙ ap (λ t. getD out e 0 ∷ t) (drop-all (e + 1) out (omega arith)) in
-    rw y (set-at front (getD out e 0) [] 1 e l)
+last-set : (t front out : List ℕ) (e : ℕ) → t ≡ front ++ drop e out → length front ≡ e → e + 1 ≡ length out → set t (length t - 1) 1 ≡ front ++ 1 ∷ []
+last-set t front out e q l h =
+    let y : drop e out ≡ getD out e 0 ∷ [] = drop-more out e 0 (omega arith) ∙ ap (λ z. getD out e 0 ∷ z) (drop-all (e + 1) out (omega arith)) in
+    let n : length (front ++ getD out e 0 ∷ []) - 1 ≡ e = simp length-append (omega arith) in
+    rw (q, y, n) (set-at front (getD out e 0) [] 1 e l)
 
-pub closed-is : (bs out zs : List ℕ) (n e : ℕ) → length bs ≡ n → e + 1 ≡ length out → n ≤ e → zs ≡ replicate (e - n) 0 → set (putMid n (e - n) (bs ++ drop n out) zs) e 1 ≡ closed e bs
-closed-is bs out zs n e b l h q =
+pub closed-is :
+    (bs xs out zs : List ℕ) (n e : ℕ) → length bs ≡ n → xs ≡ bs → e + 1 ≡ length out → n ≤ e → zs ≡ replicate (e - n) 0 →
+    set (putMid n (e - n) (xs ++ drop n out) zs) (length (putMid n (e - n) (xs ++ drop n out) zs) - 1) 1 ≡ closed e bs
+closed-is bs xs out zs n e b x l h q =
     let z : length (bs ++ zs) ≡ e = length-append bs zs ∙ ap (λ t. length bs + length t) q ∙ ap (λ m. length bs + m) (length-replicate {A = ℕ} (e - n) 0) ∙ (omega arith) in
-    ap (λ t. set t e 1) (written-next n (e - n) e bs zs out b (omega arith)) ∙ last-set (bs ++ zs) out e z l ∙ append-assoc bs zs (1 ∷ [])
-    ∙ ap (λ t. bs ++ (t ++ 1 ∷ [])) (q ∙ ap (λ m. replicate (e - m) 0) (sym b))
+    last-set (putMid n (e - n) (xs ++ drop n out) zs) (bs ++ zs) out e
+    (ap (λ t. putMid n (e - n) (t ++ drop n out) zs) x ∙ written-next n (e - n) e bs zs out b (omega arith)) z l
+    ∙ append-assoc bs zs (1 ∷ []) ∙ ap (λ t. bs ++ (t ++ 1 ∷ [])) (q ∙ ap (λ m. replicate (e - m) 0) (sym b))
 
 pub rest-long : (n e : ℕ) (front out : List ℕ) → length front ≡ n → e ≤ length out → length (take (e - n) (drop n (front ++ drop n out))) ≡ e - n
 rest-long n e front out l h = rw (drop-at front (drop n out) n l) (length-take-le (e - n) (drop n out) (simp length-drop (omega arith)))

@@ -2,7 +2,7 @@
 ghost use mathlib.Core.Path.{_≡_};
 ghost use mathlib.Core.List.{List, [], _∷_, _++_};
 ghost use Prim.Native.Nat.{ℕ, _+_, _*_, _-_, _<_, _≤_};
-ghost use lib.ListN.{length, drop};
+ghost use lib.ListN.{length, drop, set};
 ghost use Rattle.journal.specs.Log.{commit as a-commit, head as a-head, line as a-line, piece as a-piece};
 ghost use Rattle.records.specs.Lines.{records-for, share};
 ghost use Rattle.records.specs.Pages.{also-kind, also-number, closed, fours, name-in, page-of, recopied, slot-in, slot-lines, slot-weight, source-from, source-kind, source-to};
@@ -44,6 +44,15 @@ fn lay(out: &mut [u8], cells: &[u64])
     }
 }
 
+/// The seal of a page, at its end.
+fn seal(out: &mut [u8])
+    requires { ⌜ 0 < length (now out) ⌝ }
+    ensures { λ _. ⌜ now (out .exit) ≡ set (now (out .entry)) (length (now (out .entry)) - 1) 1 ⌝ }
+{
+    let end = out.len() - 1;
+    out[end] = 1;
+}
+
 /// The end of a page: bytes, zeros behind them, and the seal.
 fn close(out: &mut [u8], cells: &[u64])
     requires { ⌜ length (now cells) < length (now out) ⌝ }
@@ -52,7 +61,7 @@ fn close(out: &mut [u8], cells: &[u64])
     let end = out.len() - 1;
     lay(&mut out[..cells.len()], cells);
     out[cells.len()..end].fill(0);
-    out[end] = 1;
+    seal(out);
 }
 
 /// Numbers of four bytes each, the highest first.

@@ -1,9 +1,8 @@
-use mathlib.Core.Path.{_≡_, sym, ap, _∙_}
+use mathlib.Core.Path.{_≡_, ap, _∙_}
+use mathlib.Core.List.{_++_}
 use Prim.Native.Nat.{_-_}
 use native.Mathlib.Omega.{arith}
-use lib.ListN.{length, set, drop, replicate, length-map}
-use mathlib.Core.List.{_++_}
-use borrow.Rule.Slice.PartMut.{putMid}
+use lib.ListN.{length, drop, replicate, length-map}
 use Rattle.records.specs.Values.{low-bytes}
 use Rattle.records.proofs.Writing.{closed-is, rest-long}
 use Rattle.records.proofs.writer.close.Needs as need
@@ -12,5 +11,6 @@ pub returns : need.returns
 returns c =
     let n = length (c .args .cells .now) in
     let e = length (c .args .out .now) - 1 in
-    ap (λ t. set (putMid n (e - n) (t ++ drop n (c .args .out .now)) (c .fill .last .self)) e 1) (c .lay .ensures)
-    ∙ closed-is (low-bytes (c .args .cells .now)) (c .args .out .now) (c .fill .last .self) n e (length-map _ _) (omega arith) (omega arith) (c .fill .ensures .after (λ y h. h) ∙ ap (λ m. replicate m 0) (rest-long n e (c .lay .last .out) (c .args .out .now) (ap length (c .lay .ensures) ∙ length-map _ _) (omega arith)))
+    c .seal .ensures
+    ∙ closed-is (low-bytes (c .args .cells .now)) (c .lay .last .out) (c .args .out .now) (c .fill .last .self) n e (length-map _ _) (c .lay .ensures) (omega arith) (omega arith)
+    (c .fill .ensures .after (λ y h. h) ∙ ap (λ m. replicate m 0) (rest-long n e (c .lay .last .out) (c .args .out .now) (ap length (c .lay .ensures) ∙ length-map _ _) (omega arith)))
