@@ -1,0 +1,10 @@
+pub mod Lists
+pub mod Resolved
+pub mod Files
+pub mod Rings
+pub mod Texts
+pub mod Brought
+pub mod Alike
+pub mod Filed
+
+pub mod Turned

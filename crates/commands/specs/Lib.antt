@@ -1,0 +1,7 @@
+pub mod Splice
+pub mod Kept
+pub mod Resolve
+pub mod Plan
+pub mod Turn
+pub mod Smalls
+pub mod Held
