@@ -11,7 +11,7 @@ use Rattle.plain.specs.Promise.{all-longer}
 use Rattle.journal.specs.Log.{Position, hole, Splice, Rec, commit, broken, State, state, Packed, replay, copy-records, command-records, settled, begin-records, Alike, On, Left, generation, In-cycle, Newer, Which, only, chosen, Sides, tapes, halved}
 use Rattle.journal.specs.Small.{Small, News, updated, set-up-of, nothing-kept}
 use Rattle.journal.specs.Room.{Carrying}
-use Rattle.journal.specs.Laws.{Log, replayed, Same, Settled, Apply-natural, Torn-tail-unseen, Commit-all-at-once, Stopped-at, Stop-keeps-state, Compaction, begun, carried, commanded, Taken-over, Compaction-keeps-lines, No-full-tape}
+use Rattle.journal.specs.Laws.{Log, replayed, Same, Settled, Apply-natural, Torn-tail-unseen, Commit-all-at-once, Stopped-at, Stop-keeps-state, Compaction, begun, carried, commanded, Taken-over, Compaction-keeps-lines, No-full-tape, Within-grant}
 use Rattle.journal.proofs.Alike.{apply-natural, alike-length}
 use Rattle.journal.proofs.Replay.{replay-from-append, replay-from-broken, replay-from-lines}
 use Rattle.journal.proofs.Stored.{Open, Ready, Shows, open-ready, ready-command, ready-open, lines-unseen, lines-block, left-command}
@@ -149,3 +149,7 @@ no-full-tape R T m n VY S J V r v = (
     λ put e w. carrying-ends put r (subst (λ z. Carrying R T m n z S J) e c) w,
   ),
 )
+
+pub within-grant : Within-grant
+unfolding Within-grant
+within-grant range given shown a b c d h i j k = omega arith

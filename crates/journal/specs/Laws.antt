@@ -102,3 +102,10 @@ No-full-tape =
     × ((s put more went VY₁ J₁ : ℕ) → J₁ + 16 * s ≤ J → put + 1 ≤ 3 * s → went + 1 ≤ 3 * s → VY + more + put ≤ VY₁ + went →
     Carrying R T (m + (put + 1)) (n + more + (put + 1)) VY₁ (S + s) J₁)
     × ((put : ℕ) → VY ≡ V → 64 * (V + put) ≤ 32 * R → n + (put + 1) ≤ T))
+
+-- 7. A command stays within the records granted for its range, the lines given and the rows shown: beginning the other tape, carrying 16 entries for each unit of
+-- its size, at 3 records read and 3 put on, reading the lines of the range, and its own records on both tapes.
+unfoldable pub Within-grant : Type 0
+Within-grant =
+    (range given shown begun-by carried-by fetched put : ℕ) → begun-by ≤ 130 → carried-by ≤ 6 * (16 * (1 + range + given)) → fetched ≤ 3 * range →
+    put ≤ 6 * (1 + range + given) → begun-by + carried-by + fetched + put ≤ 256 + 256 * (range + given + shown)

@@ -1,7 +1,7 @@
 //! The log on two tapes: what replaying records gives, what a stop leaves of them, how what is needed is carried to the other tape, and how an engine above it is
 //! run beside the plain house. It has no code of its own: each law is the contract of a function.
 ghost use Rattle.plain.specs.Promise.{Fastened-stays};
-ghost use Rattle.journal.specs.Laws.{Apply-natural, Commit-all-at-once, Compaction-keeps-lines, No-full-tape, Stop-keeps-state, Torn-tail-unseen};
+ghost use Rattle.journal.specs.Laws.{Apply-natural, Commit-all-at-once, Compaction-keeps-lines, No-full-tape, Stop-keeps-state, Torn-tail-unseen, Within-grant};
 
 /// What was fastened stays, whatever a stop leaves of later records and of the other tape.
 pub fn fastened_stays() -> u8
@@ -48,6 +48,13 @@ pub fn compaction_keeps_lines() -> u8
 /// Neither tape gets full before all has been carried.
 pub fn no_full_tape() -> u8
     ensures { λ _. ⌜ No-full-tape ⌝ }
+{
+    0
+}
+
+/// A command that carries entries to the other tape stays within the records that are granted to it.
+pub fn within_grant() -> u8
+    ensures { λ _. ⌜ Within-grant ⌝ }
 {
     0
 }
