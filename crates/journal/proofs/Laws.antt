@@ -9,7 +9,7 @@ use lib.ListN.{length, getD, take, drop}
 use Rattle.plain.specs.Device.{Device, Page, Tape, tape-of, stopped}
 use Rattle.plain.specs.Promise.{all-longer}
 use Rattle.journal.specs.Log.{Position, hole, Splice, Rec, commit, broken, State, state, Packed, replay, copy-records, command-records, settled, begin-records, Alike, On, Left, generation, In-cycle, Newer, Which, only, chosen, Sides, tapes, halved}
-use Rattle.journal.specs.Small.{Small, News, updated, set-up-of, nothing-kept}
+use Rattle.journal.specs.Small.{Small, News, updated, set-up-of, no-state}
 use Rattle.journal.specs.Room.{Carrying}
 use Rattle.journal.specs.Laws.{Log, replayed, Same, Settled, Apply-natural, Torn-tail-unseen, Commit-all-at-once, Stopped-at, Stop-keeps-state, Compaction, begun, carried, commanded, Taken-over, Compaction-keeps-lines, No-full-tape, Within-grant}
 use Rattle.journal.proofs.Alike.{apply-natural, alike-length}
@@ -24,7 +24,7 @@ use Rattle.journal.proofs.Small.{set-up-right}
 use Rattle.journal.proofs.Room.{carrying-begins, carrying-fits, carrying-goes-on, carrying-ends}
 
 abbrev none-kept : Small
-none-kept = nothing-kept 64
+none-kept = no-state
 
 pub apply-is-natural : Apply-natural
 unfolding Apply-natural
@@ -98,10 +98,10 @@ record So-far (x y g : ℕ) (X Y : Log) (D : List Position) (ls : List Packed) (
   begins : generation Y ≡ g
 
 so-far : {x y g : ℕ} {X Y : Log} {D : List Position} {ls : List Packed} {s : Small} → Compaction x y g X Y D ls s → So-far x y g X Y D ls s
-so-far {x} {y} {g} (begun {X} {ls} {s} cycle h lines e r f) =
+so-far {x} {y} {g} (begun {X} {ls} {s} cycle h lines e r) =
     let D : List Position = replayed x X .dir in
     let keeps : Tape-keeps updated none-kept Any x X D ls s = record { shows = record { dir = refl; small = e }; holds = lines; through = any-through x 0 _ X; good = tt } in
-    let set : settled updated none-kept (set-up-of s) ≡ s = subst (λ n. settled updated (nothing-kept n) (set-up-of s) ≡ s) f (set-up-right s r) in
+    let set : settled updated none-kept (set-up-of s) ≡ s = set-up-right s r in
     record {
       compacting = subst (λ n. Compacting updated none-kept Any x X y (begin-records g n (set-up-of s)) D ls s) (alike-length lines)
           (compaction-begins updated none-kept Any y g (set-up-of s) keeps set tt (λ m. tt));

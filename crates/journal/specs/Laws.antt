@@ -8,7 +8,7 @@ use lib.ListN.{length, getD, set}
 use Rattle.plain.specs.Device.{Device, Page, tape-of, stopped}
 use Rattle.plain.specs.Promise.{all-longer}
 use Rattle.journal.specs.Log.{Position, position, hole, Splice, Rec, broken, State, state, apply, Intact, replay, Packed, copy-records, positions, command-records, begin-records, On, Alike, Lines-only, Left, generation, next-generation, In-cycle, Newer, Which, only, chosen, Sides, tapes, halved}
-use Rattle.journal.specs.Small.{Small, News, updated, set-up-of, nothing-kept}
+use Rattle.journal.specs.Small.{Small, News, updated, set-up-of, no-state}
 use Rattle.journal.specs.Room.{Rooms, Carrying}
 
 -- records of a table of 64 files
@@ -16,7 +16,7 @@ abbrev pub Log : Type 0
 Log = List (Rec News)
 
 abbrev pub replayed : ℕ → Log → State Small
-replayed t T = replay updated (nothing-kept 64) t T
+replayed t T = replay updated (no-state) t T
 
 -- what counts of a state: not what is pending
 pub record Same (a b : State Small) : Type 0 where
@@ -69,7 +69,7 @@ Stop-keeps-state =
 pub data Compaction (x y g : ℕ) : Log → Log → List Position → List Packed → Small → Type 0 where
   begun :
       {X : Log} {ls : List Packed} {s : Small} → In-cycle g → Settled x X → Alike (On X x) (replayed x X .dir) ls → replayed x X .small ≡ s → length (s .ring) ≤ 64 →
-      length (s .files) ≡ 64 → Compaction x y g X (begin-records g (length ls) (set-up-of s)) (replayed x X .dir) ls s
+      Compaction x y g X (begin-records g (length ls) (set-up-of s)) (replayed x X .dir) ls s
   carried :
       {X Y : Log} {D : List Position} {ls : List Packed} {s : Small} (i : ℕ) (l : Packed) → getD ls i l ≡ l → Compaction x y g X Y D ls s →
       Compaction x y g X (Y ++ copy-records i l) (set D i (position y (length Y))) ls s

@@ -10,11 +10,11 @@ use Rattle.records.specs.declared.Splice.{Splice}
 use Rattle.records.specs.declared.Also.{Also}
 use Rattle.records.specs.declared.Also.the-variants.{Nothing, Push, Store}
 use Rattle.records.specs.declared.Numbers.{Numbers}
-use Rattle.records.specs.Pages.{fours, closed, source-kind, source-from, source-to, also-kind, also-number, slot-in, slot-lines, slot-weight, slot-name, name-in, commit-numbers, page-of}
+use Rattle.records.specs.Pages.{fours, closed, source-kind, source-from, source-to, also-kind, also-number, entry-in, name-in, commit-numbers, page-of}
 use Rattle.records.specs.Values.{low-bytes, source-of, splice-of, also-of, name-for, news-of}
 use Rattle.records.proofs.Writing.{length-fours, written-first, written-next, page-closed}
 
-name-is : (a : Also) (cells : List ℕ) → low-bytes (name-for a cells) ≡ slot-name (slot-in (also-of a (low-bytes cells)))
+name-is : (a : Also) (cells : List ℕ) → low-bytes (name-for a cells) ≡ entry-in (also-of a (low-bytes cells)) .name
 name-is Nothing cells = refl
 name-is (Push weight) cells = refl
 name-is (Store slot lines weight) cells = refl
@@ -26,7 +26,7 @@ module _ (s : Splice) (n : Numbers) (cells name : List ℕ) where
   abbrev pub Also-numbers : ℕ × ℕ × ℕ × ℕ → Type 0
   Also-numbers al =
       let a = also-of (n .also) (low-bytes cells) in
-      al ≡ (also-kind a, also-number a, slot-lines (slot-in a), slot-weight (slot-in a))
+      al ≡ (also-kind a, also-number a, entry-in a .lines, entry-in a .size)
 
   abbrev pub first-numbers : ℕ × ℕ × ℕ → List ℕ
   first-numbers src = fours (s .from ∷ s .gone ∷ src .0 ∷ src .1 ∷ src .2 ∷ [])

@@ -12,10 +12,10 @@ use Rattle.std.proofs.shelf.Tests.{lt-ltb, eq-eqb, ne-eqb, eqb-true, and-from}
 use Rattle.plain.specs.Pattern.{pick, every}
 use Rattle.plain.specs.Device.{Page, lesser, a-page}
 use Rattle.journal.specs.Log.{Source, no-entries, new-entries, copied, Splice, Piece, piece, Rec, head, line, copy, commit, broken, halved}
-use Rattle.journal.specs.Small.{Slot, free, taken, Also, nothing-else, push, store, News}
+use Rattle.journal.specs.Small.{Entry, entry, Also, nothing-else, push, slot, News}
 use Rattle.journal.proofs.Contents.{torn-unsealed}
 use Rattle.records.specs.Lines.{share}
-use Rattle.records.specs.Pages.{two, four, fours, two-at, four-at, closed, source-kind, source-from, source-to, source-by, also-kind, also-number, slot-lines, slot-weight, slot-name, slot-in, also-by, name-in, commit-numbers, head-page, line-page, commit-page, page-of, sealed, piece-in-page, splice-in-page, name-in-page, also-in-page, news-in-page, by-kind, record-of, recopied, Small-number, Bytes, Piece-fits, Splice-fits, Also-fits, News-fits, Rec-fits}
+use Rattle.records.specs.Pages.{two, four, fours, two-at, four-at, closed, source-kind, source-from, source-to, source-by, also-kind, also-number, entry-in, also-by, name-in, commit-numbers, head-page, line-page, commit-page, page-of, sealed, piece-in-page, splice-in-page, name-in-page, also-in-page, news-in-page, by-kind, record-of, recopied, Small-number, Bytes, Piece-fits, Splice-fits, Also-fits, News-fits, Rec-fits}
 use Rattle.records.proofs.Digits.{two-back, four-back, two-bytes, four-bytes, fours-bytes, bytes-append, length-closed, closed-bytes, closed-seal, closed-back}
 
 -- a page that is sealed, by its kind
@@ -80,25 +80,23 @@ kind-small no-entries = omega arith
 kind-small new-entries = omega arith
 kind-small (copied x y) = omega arith
 
-also-back : (a : Also) → Also-fits a → also-by (also-kind a) (also-number a) (slot-lines (slot-in a)) (slot-weight (slot-in a)) (slot-name (slot-in a)) ≡ a
+also-back : (a : Also) → Also-fits a → also-by (also-kind a) (also-number a) (entry-in a .lines) (entry-in a .size) (entry-in a .name) ≡ a
 also-back nothing-else f = refl
 also-back (push w) f = refl
-also-back (store k free) f = absurd f
-also-back (store k (taken name lines weight)) f = refl
+also-back (slot k e) f = refl
 
 record Also-small (a : Also) : Type 0 where
   kind : Small-number (also-kind a)
   number : Small-number (also-number a)
-  lines : Small-number (slot-lines (slot-in a))
-  weight : Small-number (slot-weight (slot-in a))
-  name : length (slot-name (slot-in a)) ≤ 64
-  bytes : Bytes (slot-name (slot-in a))
+  lines : Small-number (entry-in a .lines)
+  weight : Small-number (entry-in a .size)
+  name : length (entry-in a .name) ≤ 64
+  bytes : Bytes (entry-in a .name)
 
 also-small : (a : Also) → Also-fits a → Also-small a
 also-small nothing-else f = record { kind = omega arith; number = omega arith; lines = omega arith; weight = omega arith; name = omega arith; bytes = refl }
 also-small (push w) f = record { kind = omega arith; number = f; lines = omega arith; weight = omega arith; name = omega arith; bytes = refl }
-also-small (store k free) f = absurd f
-also-small (store k (taken name lines weight)) f = record { kind = omega arith; number = f .0; lines = f .1; weight = f .2; name = f .3; bytes = f .4 }
+also-small (slot k e) f = record { kind = omega arith; number = f .0; lines = f .1; weight = f .2; name = f .3; bytes = f .4 }
 
 at-most : (n : ℕ) → n ≤ 64 → lesser n 64 ≡ n
 at-most n h = grind arith
@@ -120,8 +118,8 @@ commit-back c u f g =
     let weight = four-back (u .weight) (g .weight) in
     let also = four-back (also-kind (u .also)) (s .kind) in
     let number = four-back (also-number (u .also)) (s .number) in
-    let lines = four-back (slot-lines (slot-in (u .also))) (s .lines) in
-    let slot = four-back (slot-weight (slot-in (u .also))) (s .weight) in
+    let lines = four-back (entry-in (u .also) .lines) (s .lines) in
+    let slot = four-back (entry-in (u .also) .size) (s .weight) in
     let long : four-at p 49 ≡ length (name-in u) = four-back (length (name-in u)) (let h = s .name in omega arith) in
     let name : name-in-page p ≡ name-in u = closed-back 458 (lesser (four-at p 49) 64) (name-in u) (sym (ap (λ n. lesser n 64) long ∙ at-most (length (name-in u)) (s .name))) in
     let source : splice-in-page p .source ≡ c .source = (λ i. source-by (kind i) (x i) (y i)) ∙ source-back (c .source) in

@@ -15,7 +15,7 @@ use lib.ListN.{length, getD, take, drop, replicate}
 use Rattle.plain.specs.Pattern.{pick, every}
 use Rattle.plain.specs.Device.{Page, lesser}
 use Rattle.journal.specs.Log.{Source, no-entries, new-entries, copied, Splice, Piece, piece, Rec, head, line, copy, commit, broken}
-use Rattle.journal.specs.Small.{Slot, free, taken, Also, nothing-else, push, store, News}
+use Rattle.journal.specs.Small.{Entry, entry, Also, nothing-else, push, slot, News}
 use Rattle.records.specs.Lines.{share}
 
 abbrev pub two : ℕ → List ℕ
@@ -60,41 +60,32 @@ source-by k x y = pick (eqb k 0) no-entries (pick (eqb k 1) new-entries (copied 
 abbrev pub also-kind : Also → ℕ
 also-kind nothing-else = 0
 also-kind (push w) = 1
-also-kind (store k f) = 2
+also-kind (slot k e) = 2
 
 -- a stand's weight, or a slot
 abbrev pub also-number : Also → ℕ
 also-number nothing-else = 0
 also-number (push w) = w
-also-number (store k f) = k
+also-number (slot k e) = k
 
-abbrev pub slot-lines : Slot → ℕ
-slot-lines free = 0
-slot-lines (taken name lines weight) = lines
+abbrev pub no-entry : Entry
+no-entry = entry [] 0 0
 
-abbrev pub slot-weight : Slot → ℕ
-slot-weight free = 0
-slot-weight (taken name lines weight) = weight
-
-abbrev pub slot-name : Slot → List ℕ
-slot-name free = []
-slot-name (taken name lines weight) = name
-
-abbrev pub slot-in : Also → Slot
-slot-in nothing-else = free
-slot-in (push w) = free
-slot-in (store k f) = f
+abbrev pub entry-in : Also → Entry
+entry-in nothing-else = no-entry
+entry-in (push w) = no-entry
+entry-in (slot k e) = e
 
 abbrev pub also-by : ℕ → ℕ → ℕ → ℕ → List ℕ → Also
-also-by k a lines weight name = pick (eqb k 0) nothing-else (pick (eqb k 1) (push a) (store a (taken name lines weight)))
+also-by k a lines weight name = pick (eqb k 0) nothing-else (pick (eqb k 1) (push a) (slot a (entry name lines weight)))
 
 abbrev pub name-in : News → List ℕ
-name-in u = slot-name (slot-in (u .also))
+name-in u = entry-in (u .also) .name
 
 abbrev pub commit-numbers : Splice → News → List ℕ
 commit-numbers c u =
     c .from ∷ c .gone ∷ source-kind (c .source) ∷ source-from (c .source) ∷ source-to (c .source) ∷ u .count ∷ u .current ∷ u .weight ∷ also-kind (u .also)
-    ∷ also-number (u .also) ∷ slot-lines (slot-in (u .also)) ∷ slot-weight (slot-in (u .also)) ∷ length (name-in u) ∷ []
+    ∷ also-number (u .also) ∷ entry-in (u .also) .lines ∷ entry-in (u .also) .size ∷ length (name-in u) ∷ []
 
 -- a record as a page
 abbrev pub head-page : ℕ → ℕ → Page
@@ -163,12 +154,10 @@ pub record Splice-fits (c : Splice) : Type 0 where
   pub source-from : Small-number (source-from (c .source))
   pub source-to : Small-number (source-to (c .source))
 
--- a slot is only stored with a file in it
 abbrev pub Also-fits : Also → Type 0
 Also-fits nothing-else = Unit {0}
 Also-fits (push w) = Small-number w
-Also-fits (store k free) = ⊥
-Also-fits (store k (taken name lines weight)) = Small-number k × Small-number lines × Small-number weight × (length name ≤ 64) × Bytes name
+Also-fits (slot k e) = Small-number k × Small-number (e .lines) × Small-number (e .size) × (length (e .name) ≤ 64) × Bytes (e .name)
 
 pub record News-fits (u : News) : Type 0 where
   pub count : Small-number (u .count)

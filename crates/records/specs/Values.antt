@@ -31,7 +31,7 @@ splice-of s = record { from = s .from; gone = s .gone; source = source-of (s .so
 abbrev pub also-of : Also → List ℕ → small.Also
 also-of also.Nothing name = small.nothing-else
 also-of (also.Push weight) name = small.push weight
-also-of (also.Store slot lines weight) name = small.store slot (small.taken name lines weight)
+also-of (also.Store slot lines weight) name = small.slot slot (small.entry name lines weight)
 
 abbrev pub name-for : Also → List ℕ → List ℕ
 name-for also.Nothing name = []

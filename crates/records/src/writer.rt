@@ -5,7 +5,7 @@ ghost use Prim.Native.Nat.{ℕ, _+_, _*_, _-_, _<_, _≤_};
 ghost use lib.ListN.{length, drop, set};
 ghost use Rattle.journal.specs.Log.{commit as a-commit, head as a-head, line as a-line, piece as a-piece};
 ghost use Rattle.records.specs.Lines.{records-for, share};
-ghost use Rattle.records.specs.Pages.{also-kind, also-number, closed, fours, name-in, page-of, recopied, slot-in, slot-lines, slot-weight, source-from, source-kind, source-to};
+ghost use Rattle.records.specs.Pages.{also-kind, also-number, closed, entry-in, fours, name-in, page-of, recopied, source-from, source-kind, source-to};
 ghost use Rattle.records.specs.Values.{also-of, low-bytes, name-for, news-of, source-of, splice-of};
 use crate::Also;
 use crate::COMMIT;
@@ -115,7 +115,7 @@ fn source_numbers(source: Source) -> (u32, u32, u32)
 }
 
 fn also_numbers(also: Also) -> (u32, u32, u32, u32)
-    ensures { λ r. ⌜ ((name : List ℕ) → r ≡ (also-kind (also-of also name), also-number (also-of also name), slot-lines (slot-in (also-of also name)), slot-weight (slot-in (also-of also name)))) ⌝ }
+    ensures { λ r. ⌜ ((name : List ℕ) → r ≡ (also-kind (also-of also name), also-number (also-of also name), entry-in (also-of also name) .lines, entry-in (also-of also name) .size)) ⌝ }
 {
     match also {
         Also::Nothing => (0, 0, 0, 0),
