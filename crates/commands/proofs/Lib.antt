@@ -8,3 +8,4 @@ pub mod Alike
 pub mod Filed
 
 pub mod Turned
+pub mod Planned

@@ -9,7 +9,7 @@ use Rattle.plain.specs.Pattern.{pick, every, each, all-bytes}
 use Rattle.plain.specs.Command.{Deed, append, insert, change, delete, join, move, copy, mark, print, number, where-is, swap, go-to, undo, redo, save, edit, load, files, bad, Simple, Command, plain, all-lines, reads}
 use Rattle.plain.specs.House.{Line, Stand, Plain, Turn, turn, core, how-many, stand-weight, weight, plain-range, given-lines}
 use Rattle.plain.specs.Promise.{distinct, ids, goes-through, may-use, Turn-may, first-plain}
-use Rattle.commands.specs.Splice.{Splice, apply}
+use Rattle.commands.specs.Splice.{Source, nothing, put-on, again, Splice, apply}
 use Rattle.commands.specs.Kept.{Kept, kept-weight, directory, Sound, nothing-kept, fit-name, lines-size}
 use Rattle.commands.specs.Resolve.{Checked, good, refused, Bounds, command-bounds}
 use Rattle.commands.specs.Plan.{Plan}
@@ -63,15 +63,22 @@ unfoldable pub Begins-alike : Type 0
 Begins-alike = Held first-plain nothing-kept
 
 -- THE SPLICE: a plan's splice is what becomes of the directory, and its small numbers are those of what is kept then
+abbrev pub Inside : ℕ → Source → Type 0
+Inside n nothing = zero ≡ zero
+Inside n put-on = zero ≡ zero
+Inside n (again x y) = (x ≤ y) × (y ≤ n)
+
 pub record As-planned (k : Kept) (p : Plan) (d : Deed) : Type 0 where
   pub entries : directory (kept-after k p d) ≡ apply (p .splice) (directory k) (new-lines-of k p (lines-given d))
   pub numbers : smalls-of (kept-after k p d) ≡ updated (news-by (p .update) (smalls-of k) p (lines-size (walked k p)) (lines-size (lines-that-come k p (lines-given d))) (name-given d)) (smalls-of k)
   pub coming : length (lines-that-come k p (lines-given d)) ≡ p .came
   pub below : p .after ≤ p .upto
   pub there : p .upto ≤ length (k .text)
+  pub goes : p .splice .from + p .splice .gone ≤ length (directory k)
+  pub comes : Inside (length (directory k)) (p .splice .source)
 
 unfoldable pub Plans-stand : Type 0
-Plans-stand = (k : Kept) (c : Simple) (p : Plan) → Sound k → decision k c ≡ good p → As-planned k p (c .deed)
+Plans-stand = (k : Kept) (c : Simple) (p : Plan) → decision k c ≡ good p → As-planned k p (c .deed)
 
 unfoldable pub Smalls-weigh : Type 0
 Smalls-weigh = (k : Kept) → kept-weight k ≡ smalls-weight (smalls-of k)
