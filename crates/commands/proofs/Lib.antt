@@ -9,3 +9,6 @@ pub mod Filed
 
 pub mod Turned
 pub mod Planned
+pub mod Granted
+pub mod Readings
+pub mod Typed

@@ -8,12 +8,12 @@ use lib.ListN.{length}
 use Rattle.plain.specs.Pattern.{pick, every, each, all-bytes}
 use Rattle.plain.specs.Command.{Deed, append, insert, change, delete, join, move, copy, mark, print, number, where-is, swap, go-to, undo, redo, save, edit, load, files, bad, Simple, Command, plain, all-lines, reads}
 use Rattle.plain.specs.House.{Line, Stand, Plain, Turn, turn, core, how-many, stand-weight, weight, plain-range, given-lines}
-use Rattle.plain.specs.Promise.{distinct, ids, goes-through, may-use, Turn-may, first-plain}
+use Rattle.plain.specs.Promise.{distinct, ids, goes-through, may-use, Turn-may, May, first-plain}
 use Rattle.commands.specs.Splice.{Source, nothing, put-on, again, Splice, apply}
 use Rattle.commands.specs.Kept.{Kept, kept-weight, directory, Sound, nothing-kept, fit-name, lines-size}
 use Rattle.commands.specs.Resolve.{Checked, good, refused, Bounds, command-bounds}
 use Rattle.commands.specs.Plan.{Plan}
-use Rattle.commands.specs.Turn.{Kept-turn, kept-turn, room-turn, decision, walked, too-long, new-lines-of, lines-that-come, kept-after, lines-given, name-given}
+use Rattle.commands.specs.Turn.{Kept-turn, kept-turn, kept-no, room-turn, decision, walked, too-long, new-lines-of, lines-that-come, kept-after, lines-given, name-given}
 use Rattle.commands.specs.Smalls.{Smalls, smalls-of, updated, news-by, smalls-weight}
 
 -- the weights of what was before, each beside the next newer one, the newest first
@@ -106,3 +106,23 @@ unfoldable pub Turns-allowed : Type 0
 Turns-allowed =
     (records : ℕ) (w : Plain) (k : Kept) (c : Command) (r : ℕ) → Held w k → core c ≡ true → well-read c ≡ true → kept-weight k ≤ 32 * records →
     may-spend k c (kept-turn k c .shows) r ≡ true → Allowed records w c (room-turn records k c) r
+
+-- WHAT IS TYPED: refused with 1 if it can't be read, with 2 if it isn't known
+abbrev pub typed-turn : ℕ → Kept → List Command → Kept-turn
+typed-turn records k [] = kept-no 1 k
+typed-turn records k (c ∷ cs) = room-turn records k c
+
+abbrev pub may-spend-on : Kept → List Command → ℕ → Bool
+may-spend-on k [] r = true
+may-spend-on k (c ∷ cs) r = may-spend k c (kept-turn k c .shows) r
+
+pub record May-be (records : ℕ) (w : Plain) (bs : List ℕ) (u : Kept-turn) (r : ℕ) : Type 0 where
+  pub next : Plain
+  pub may : May core records w bs (u .shows) r (u .reply) next
+  pub held : Held next (u .next)
+  pub room : kept-weight (u .next) ≤ 32 * records
+
+unfoldable pub Typed-allowed : Type 0
+Typed-allowed =
+    (records : ℕ) (w : Plain) (k : Kept) (bs : List ℕ) (r : ℕ) → Held w k → kept-weight k ≤ 32 * records → may-spend-on k (reads bs) r ≡ true →
+    May-be records w bs (typed-turn records k (reads bs)) r
