@@ -9,12 +9,13 @@ use Rattle.plain.specs.Pattern.{pick, every, each, all-bytes}
 use Rattle.plain.specs.Command.{Deed, append, insert, change, delete, join, move, copy, mark, print, number, where-is, swap, go-to, undo, redo, save, edit, load, files, bad, Simple, Command, plain, all-lines, reads}
 use Rattle.plain.specs.House.{Line, Stand, Plain, Turn, turn, core, how-many, stand-weight, weight, plain-range, given-lines}
 use Rattle.plain.specs.Promise.{distinct, ids, goes-through, may-use, Turn-may, first-plain}
-use Rattle.commands.specs.Splice.{Splice, apply}
+use Rattle.journal.specs.Log.{Splice, apply}
 use Rattle.commands.specs.Kept.{Kept, kept-weight, directory, Sound, nothing-kept, fit-name, lines-size}
 use Rattle.commands.specs.Resolve.{Checked, good, refused, Bounds, command-bounds}
 use Rattle.commands.specs.Plan.{Plan}
 use Rattle.commands.specs.Turn.{Kept-turn, kept-turn, room-turn, decision, walked, too-long, new-lines-of, lines-that-come, kept-after, lines-given, name-given}
-use Rattle.commands.specs.Smalls.{Smalls, smalls-of, updated, news-by, smalls-weight}
+use Rattle.commands.specs.Smalls.{smalls-of, news-by, smalls-weight}
+use Rattle.journal.specs.Small.{Small, updated}
 
 -- the weights of what was before, each beside the next newer one, the newest first
 unfoldable pub stand-weights : Stand → List Stand → List ℕ

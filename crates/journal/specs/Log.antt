@@ -32,8 +32,11 @@ pub record Splice : Type 0 where
   pub gone : ℕ
   pub source : Source
 
+abbrev pub splice : ℕ → ℕ → Source → Splice
+splice p q s = record { from = p; gone = q; source = s }
+
 abbrev pub no-splice : Splice
-no-splice = record { from = 0; gone = 0; source = no-entries }
+no-splice = splice 0 0 no-entries
 
 -- one record's share of a line: how long the whole line is, and the bytes that are here
 pub record Piece : Type 0 where

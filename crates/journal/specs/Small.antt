@@ -3,25 +3,36 @@
 use mathlib.Core.List.{List, [], _∷_, _++_}
 use Prim.Native.Nat.{ℕ, zero, suc}
 use lib.Dec.{ltb}
-use lib.ListN.{length, drop, set, replicate}
+use lib.ListN.{length, take, drop}
 use Rattle.plain.specs.Pattern.{pick}
 
--- a place of the table of files
-pub data Slot : Type 0 where
-  free : Slot
-  taken : List ℕ → ℕ → ℕ → Slot  -- name, lines, weight
+-- of a file its name, how many lines it has, and what these weigh
+pub record Entry : Type 0 where
+  pub name : List ℕ
+  pub lines : ℕ
+  pub size : ℕ
+
+abbrev pub entry : List ℕ → ℕ → ℕ → Entry
+entry n l s = record { name = n; lines = l; size = s }
 
 pub record Small : Type 0 where
-  pub count : ℕ
+  pub count : ℕ                      -- lines of the text
   pub current : ℕ
-  pub weight : ℕ
-  pub ring : List ℕ
-  pub files : List Slot
+  pub weight : ℕ                     -- of the lines of the text
+  pub ring : List ℕ                  -- what each earlier stand weighs, the oldest first, up to 64
+  pub files : List Entry
 
+abbrev pub small : ℕ → ℕ → ℕ → List ℕ → List Entry → Small
+small a b c r fs = record { count = a; current = b; weight = c; ring = r; files = fs }
+
+abbrev pub no-state : Small
+no-state = small 0 0 0 [] []
+
+-- what a commit says besides the text's numbers
 pub data Also : Type 0 where
   nothing-else : Also
   push : ℕ → Also
-  store : ℕ → Slot → Also
+  slot : ℕ → Entry → Also
 
 pub record News : Type 0 where
   pub count : ℕ
@@ -29,39 +40,34 @@ pub record News : Type 0 where
   pub weight : ℕ
   pub also : Also
 
+abbrev pub news : ℕ → ℕ → ℕ → Also → News
+news a b c d = record { count = a; current = b; weight = c; also = d }
+
+-- a 65th drops the oldest
 abbrev pub pushed : List ℕ → ℕ → List ℕ
-pushed r w = pick (ltb (length r) 64) (r ++ w ∷ []) (drop 1 r ++ w ∷ [])
+pushed r n = pick (ltb (length r) 64) (r ++ n ∷ []) (drop 1 r ++ n ∷ [])
 
 abbrev pub ring-by : Also → List ℕ → List ℕ
 ring-by nothing-else r = r
-ring-by (push w) r = pushed r w
-ring-by (store k f) r = r
+ring-by (push n) r = pushed r n
+ring-by (slot i e) r = r
 
-abbrev pub files-by : Also → List Slot → List Slot
-files-by nothing-else fs = fs
-files-by (push w) fs = fs
-files-by (store k f) fs = set fs k f
+abbrev pub files-by : Also → List Entry → List Entry
+files-by nothing-else es = es
+files-by (push n) es = es
+files-by (slot i e) es = take i es ++ (e ∷ drop (suc i) es)
 
 abbrev pub updated : News → Small → Small
-updated u s = record { count = u .count; current = u .current; weight = u .weight; ring = ring-by (u .also) (s .ring); files = files-by (u .also) (s .files) }
+updated u s = small (u .count) (u .current) (u .weight) (ring-by (u .also) (s .ring)) (files-by (u .also) (s .files))
 
-abbrev pub small : ℕ → ℕ → ℕ → List ℕ → List Slot → Small
-small a b c r fs = record { count = a; current = b; weight = c; ring = r; files = fs }
-
-abbrev pub news : Also → News
-news a = record { count = 0; current = 0; weight = 0; also = a }
-
+-- SETTING IT UP on a new tape: the ring, the files, then the text's numbers
 unfoldable pub pushes : List ℕ → List News
 pushes [] = []
-pushes (w ∷ ws) = news (push w) ∷ pushes ws
+pushes (w ∷ ws) = news 0 0 0 (push w) ∷ pushes ws
 
-unfoldable pub slots : ℕ → List Slot → List News
+unfoldable pub slots : ℕ → List Entry → List News
 slots k [] = []
-slots k (free ∷ fs) = slots (suc k) fs
-slots k (taken a b c ∷ fs) = news (store k (taken a b c)) ∷ slots (suc k) fs
+slots k (e ∷ es) = news 0 0 0 (slot k e) ∷ slots (suc k) es
 
 abbrev pub set-up-of : Small → List News
-set-up-of s = pushes (s .ring) ++ (slots 0 (s .files) ++ record { count = s .count; current = s .current; weight = s .weight; also = nothing-else } ∷ [])
-
-abbrev pub nothing-kept : ℕ → Small
-nothing-kept n = small 0 0 0 [] (replicate n free)
+set-up-of s = pushes (s .ring) ++ (slots 0 (s .files) ++ news (s .count) (s .current) (s .weight) nothing-else ∷ [])
