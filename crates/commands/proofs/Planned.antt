@@ -14,14 +14,15 @@ use Rattle.plain.specs.Command.{Deed, append, insert, change, delete, join, mov
 use Rattle.plain.specs.House.{File}
 use Rattle.plain.proofs.Basics.{each-append, length-each, added-append}
 use Rattle.plain.proofs.Moved.{split-three}
-use Rattle.commands.specs.Splice.{Source, nothing, put-on, again, Splice, splice, none, brought, apply}
-use Rattle.commands.specs.Kept.{Kept, kept, line-size, lines-size, file-size, sum, pushed, stand-size, file-lines, directory, offset, kept-weight}
+use Rattle.journal.specs.Log.{Source, no-entries, new-entries, copied, Splice, splice, no-splice, incoming, apply}
+use Rattle.journal.specs.Small.{entry, Small, small, updated, pushed}
+use Rattle.commands.specs.Kept.{Kept, kept, line-size, lines-size, file-size, sum, stand-size, file-lines, directory, offset, kept-weight}
 use Rattle.commands.specs.Resolve.{Checked, good, refused, then, check, Bounds, command-bounds, there}
 use Rattle.commands.specs.Plan as plan
-use Rattle.commands.specs.Plan.{Entry, entry, entry-of, table, Slot, Plan, Walk, skip, measure, glue, Rows, text-plan, show-plan, say-plan, file-plan, decide, decide-deed, known, writable}
+use Rattle.commands.specs.Plan.{entry-of, table, Slot, Plan, Walk, skip, measure, glue, Rows, text-plan, show-plan, say-plan, file-plan, decide, decide-deed, known, writable}
 use Rattle.commands.specs.Turn as turn
 use Rattle.commands.specs.Turn.{lines-given, name-given, given-of, sizes-of, slot-in, walked, updated-by, with-lines, with-file-at, kept-after, decision}
-use Rattle.commands.specs.Smalls.{Smalls, smalls, smalls-of, updated, news-by, smalls-weight, entry-size}
+use Rattle.commands.specs.Smalls.{smalls-of, news-by, smalls-weight, entry-size}
 use Rattle.commands.specs.Held.{As-planned, Inside, Plans-stand, Smalls-weigh}
 use Rattle.commands.proofs.Lists.{each-take, each-drop, added-each, flat-append}
 use Rattle.commands.proofs.Files.{file, There, Missing, looked, at-place, at-end}
@@ -55,17 +56,17 @@ lines-weigh T C a b h =
 
 module _ (k : Kept) (d : Deed) where
   pub text-planned : (w : Walk) (a b : ℕ) (s : Source) (came at : ℕ) (rows : Rows) → a ≤ b → b ≤ length (k .text) →
-      length (brought s (directory k) (turn.put-lines w (take (b - a) (drop a (k .text))) (lines-given d))) ≡ came → Inside (length (directory k)) s →
+      length (incoming s (directory k) (turn.put-lines w (take (b - a) (drop a (k .text))) (lines-given d))) ≡ came → Inside (length (directory k)) s →
       As-planned k (text-plan (sizes-of k) w a b s came at rows) d
   unfolding apply updated-by news-by
   text-planned w a b s came at rows ab bn long inside =
       let T = k .text in
-      let C = brought s (directory k) (turn.put-lines w (take (b - a) (drop a T)) (lines-given d)) in
+      let C = incoming s (directory k) (turn.put-lines w (take (b - a) (drop a T)) (lines-given d)) in
       let n : length (with-lines a b C T) ≡ length T - (b - a) + came = lines-long T C a b ab bn ∙ ap (λ m. length T - (b - a) + m) long in
       let m = lines-weigh T C a b ab in
       record {
         entries = text-entries (k .files) T C a b ab;
-        numbers = λ i. smalls (n i) at (m i) (pushed (k .ring) (stand-size (length T) a b (lines-size (take (b - a) (drop a T))) came)) (table (k .files));
+        numbers = λ i. small (n i) at (m i) (pushed (k .ring) (stand-size (length T) a b (lines-size (take (b - a) (drop a T))) came)) (table (k .files));
         coming = long; below = ab; there = bn;
         goes = omega (arith, directory-long k);
         comes = inside }
@@ -138,7 +139,7 @@ module _ (k : Kept) (n : List ℕ) where
       let dl = directory-long k in
       record {
         entries = file-entries (k .files) (k .text) C n x l;
-        numbers = λ i. smalls (length (k .text)) (k .at) (lines-size (k .text)) (k .ring) (t i);
+        numbers = λ i. small (length (k .text)) (k .at) (lines-size (k .text)) (k .ring) (t i);
         coming = long; below = ab; there = bn;
         goes = omega (arith, slot-inside (k .files) n x l);
         comes = (omega arith, omega arith) }
@@ -187,26 +188,26 @@ module _ (k : Kept) where
             ap (λ m. take ((x .before + m) - x .before) (drop (x .before) (directory k))) long ∙ again-file k (t .P) (t .f) (t .R) (x .before) (t .split) from in
       let dl = directory-long k in
       let si = slot-inside (k .files) n x (inl t) in
-      text-planned k (edit n) skip 0 (length (k .text)) (again (x .before) (x .before + x .lines)) (x .lines) (x .lines) (plan.a-number (x .lines)) (omega arith) (omega arith) (ap length came ∙ sym long) (omega arith, omega arith)
+      text-planned k (edit n) skip 0 (length (k .text)) (copied (x .before) (x .before + x .lines)) (x .lines) (x .lines) (plan.a-number (x .lines)) (omega arith) (omega arith) (ap length came ∙ sym long) (omega arith, omega arith)
   edit-planned n (inr t) e = absurd (true≢false (sym e ∙ ap (λ z. z .found) (t .slot)))
 
   pub deed-planned : (d : Deed) (r : Checked Bounds) → Ordered r → All-planned k d (decide-deed (sizes-of k) (slot-in k (name-given d)) (given-of d) r d)
   unfolding decide-deed lines-given name-given turn.put-lines
   deed-planned (append ls) r o =
       then-planned (append ls) r _ o (λ b h. short-planned (append ls) _ _ (check-planned (append ls) (leb (b .last) (length (k .text))) 4 _ (λ e. (let l = leb-true (b .last) (length (k .text)) e in
-        text-planned k (append ls) skip (b .last) (b .last) put-on (length ls) (b .last + length ls) plan.no-row (omega arith) l refl refl))))
+        text-planned k (append ls) skip (b .last) (b .last) new-entries (length ls) (b .last + length ls) plan.no-row (omega arith) l refl refl))))
   deed-planned (insert ls) r o =
       then-planned (insert ls) r _ o (λ b h. short-planned (insert ls) _ _ (check-planned (insert ls) (leb (b .last) (length (k .text))) 4 _ (λ e. (let l = leb-true (b .last) (length (k .text)) e in
-        text-planned k (insert ls) skip (b .last - 1) (b .last - 1) put-on (length ls) _ plan.no-row (omega arith) (omega arith) refl refl))))
+        text-planned k (insert ls) skip (b .last - 1) (b .last - 1) new-entries (length ls) _ plan.no-row (omega arith) (omega arith) refl refl))))
   deed-planned (change ls) r o =
       then-planned (change ls) r _ o (λ b h. short-planned (change ls) _ _ (check-planned (change ls) (there (length (k .text)) b) 4 _ (λ e. (let s = spans b e in let x = s .order in
-        text-planned k (change ls) measure (b .first - 1) (b .last) put-on (length ls) _ plan.no-row (omega arith) (s .there) refl refl))))
+        text-planned k (change ls) measure (b .first - 1) (b .last) new-entries (length ls) _ plan.no-row (omega arith) (s .there) refl refl))))
   deed-planned delete r o =
       then-planned delete r _ o (λ b h. check-planned delete (there (length (k .text)) b) 4 _ (λ e. (let s = spans b e in let x = s .order in
-        text-planned k delete measure (b .first - 1) (b .last) nothing 0 _ plan.no-row (omega arith) (s .there) refl refl)))
+        text-planned k delete measure (b .first - 1) (b .last) no-entries 0 _ plan.no-row (omega arith) (s .there) refl refl)))
   deed-planned join r o =
       then-planned join r _ o (λ b h. check-planned join (there (length (k .text)) b) 4 _ (λ e. (let s = spans b e in let x = s .order in
-        text-planned k join glue (b .first - 1) (b .last) put-on 1 _ plan.no-row (omega arith) (s .there) refl refl)))
+        text-planned k join glue (b .first - 1) (b .last) new-entries 1 _ plan.no-row (omega arith) (s .there) refl refl)))
   deed-planned (move a) r o = refl
   deed-planned (copy a) r o = refl
   deed-planned (mark c) r o = refl

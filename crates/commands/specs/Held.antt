@@ -9,12 +9,13 @@ use Rattle.plain.specs.Pattern.{pick, every, each, all-bytes}
 use Rattle.plain.specs.Command.{Deed, append, insert, change, delete, join, move, copy, mark, print, number, where-is, swap, go-to, undo, redo, save, edit, load, files, bad, Simple, Command, plain, all-lines, reads}
 use Rattle.plain.specs.House.{Line, Stand, Plain, Turn, turn, core, how-many, stand-weight, weight, plain-range, given-lines}
 use Rattle.plain.specs.Promise.{distinct, ids, goes-through, may-use, Turn-may, May, first-plain}
-use Rattle.commands.specs.Splice.{Source, nothing, put-on, again, Splice, apply}
+use Rattle.journal.specs.Log.{Source, no-entries, new-entries, copied, Splice, apply}
 use Rattle.commands.specs.Kept.{Kept, kept-weight, directory, Sound, nothing-kept, fit-name, lines-size}
 use Rattle.commands.specs.Resolve.{Checked, good, refused, Bounds, command-bounds}
 use Rattle.commands.specs.Plan.{Plan}
 use Rattle.commands.specs.Turn.{Kept-turn, kept-turn, kept-no, room-turn, decision, walked, too-long, new-lines-of, lines-that-come, kept-after, lines-given, name-given}
-use Rattle.commands.specs.Smalls.{Smalls, smalls-of, updated, news-by, smalls-weight}
+use Rattle.commands.specs.Smalls.{smalls-of, news-by, smalls-weight}
+use Rattle.journal.specs.Small.{Small, updated}
 
 -- the weights of what was before, each beside the next newer one, the newest first
 unfoldable pub stand-weights : Stand → List Stand → List ℕ
@@ -64,9 +65,9 @@ Begins-alike = Held first-plain nothing-kept
 
 -- THE SPLICE: a plan's splice is what becomes of the directory, and its small numbers are those of what is kept then
 abbrev pub Inside : ℕ → Source → Type 0
-Inside n nothing = zero ≡ zero
-Inside n put-on = zero ≡ zero
-Inside n (again x y) = (x ≤ y) × (y ≤ n)
+Inside n no-entries = zero ≡ zero
+Inside n new-entries = zero ≡ zero
+Inside n (copied x y) = (x ≤ y) × (y ≤ n)
 
 pub record As-planned (k : Kept) (p : Plan) (d : Deed) : Type 0 where
   pub entries : directory (kept-after k p d) ≡ apply (p .splice) (directory k) (new-lines-of k p (lines-given d))

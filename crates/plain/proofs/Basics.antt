@@ -150,12 +150,13 @@ distinct-parts (i ∷ is) js e =
     record {
       first = distinct-more i is (λ h. q .0 (in-left i is js h)) (r .first);
       second = r .second;
-      apart = λ j h k. elim h [ inl p ↦ q .0 (in-right i is js (subst (λ t. In t js) (sym p) k)) | inr g ↦ r .apart j g k ] }
+      apart = λ j h k. elim h [ inl p ↦ q .0 (in-right i is js (subst (λ t. In t js) (sym p) k)) | inr g ↦ r .apart j g k ];
+    }
 
 pub distinct-join : (is js : List ℕ) → distinct is ≡ true → distinct js ≡ true → Apart is js → distinct (is ++ js) ≡ true
 distinct-join [] js p q h = q
 distinct-join (i ∷ is) js p q h =
     let c = distinct-cons i is p in
     distinct-more i (is ++ js)
-      (λ k. elim (in-cases i is js k) [ inl g ↦ c .0 g | inr g ↦ h i (inl refl) g ])
-      (distinct-join is js (c .1) q (λ j g k. h j (inr g) k))
+    (λ k. elim (in-cases i is js k) [ inl g ↦ c .0 g | inr g ↦ h i (inl refl) g ])
+    (distinct-join is js (c .1) q (λ j g k. h j (inr g) k))

@@ -20,8 +20,8 @@ split-three a b xs h =
     let e : a + (b - a) ≡ b = omega arith in
     let f : drop (b - a) (drop a xs) ≡ drop b xs = drop-drop (b - a) a xs ∙ ap (λ n. drop n xs) e in
     ap (λ r. take a xs ++ (take (b - a) (drop a xs) ++ r)) (sym f)
-      ∙ ap (λ r. take a xs ++ r) (take-append-drop (b - a) (drop a xs))
-      ∙ take-append-drop a xs
+    ∙ ap (λ r. take a xs ++ r) (take-append-drop (b - a) (drop a xs))
+    ∙ take-append-drop a xs
 
 pub split-drop : {A : Type 0} (b d : ℕ) (xs : List A) → b ≤ d → drop b xs ≡ take (d - b) (drop b xs) ++ drop d xs
 split-drop b d xs h =
@@ -56,10 +56,11 @@ module _ (P Q M R L : List Line) (dist : distinct (ids L) ≡ true) where
       let d₃ = distinct-parts (ids M) (ids R) (d₂ .second) in
       let p : Apart (ids P) (ids M) = λ i h k. d₁ .apart i h (in-right i (ids Q) _ (in-left i (ids M) (ids R) k)) in
       let q : Apart (ids Q) (ids M) = λ i h k. d₂ .apart i h (in-left i (ids M) (ids R) k) in
-      let r : Apart (ids R) (ids M) = λ i h k. d₃ .apart i k h in
-      ( rw e (simp length-append (omega arith))
-      , rw e (simp (each-append, without-append, without-self, append-assoc))
-      , simp (each-append, those-append, those-self, those-apart (ids M) (ids P) p, those-apart (ids M) (ids Q) q, those-apart (ids M) (ids R) r, append-nil))
+      let r : Apart (ids R) (ids M) = λ i h k. d₃ .apart i k h in (
+        rw e (simp length-append (omega arith)),
+        rw e (simp (each-append, without-append, without-self, append-assoc)),
+        simp (each-append, those-append, those-self, those-apart (ids M) (ids P) p, those-apart (ids M) (ids Q) q, those-apart (ids M) (ids R) r, append-nil),
+      )
 
   pub swap-down : L ≡ P ++ (M ++ (Q ++ R)) →
       (length (P ++ Q ++ M ++ R) ≡ length L) × (without (ids M) (ids (P ++ Q ++ M ++ R)) ≡ without (ids M) (ids L))
@@ -70,10 +71,11 @@ module _ (P Q M R L : List Line) (dist : distinct (ids L) ≡ true) where
       let d₂ = distinct-parts (ids M) (ids Q ++ ids R) (d₁ .second) in
       let p : Apart (ids P) (ids M) = λ i h k. d₁ .apart i h (in-left i (ids M) _ k) in
       let q : Apart (ids Q) (ids M) = λ i h k. d₂ .apart i k (in-left i (ids Q) (ids R) h) in
-      let r : Apart (ids R) (ids M) = λ i h k. d₂ .apart i k (in-right i (ids Q) (ids R) h) in
-      ( rw e (simp length-append (omega arith))
-      , rw e (simp (each-append, without-append, without-self, append-assoc))
-      , simp (each-append, those-append, those-self, those-apart (ids M) (ids P) p, those-apart (ids M) (ids Q) q, those-apart (ids M) (ids R) r, append-nil))
+      let r : Apart (ids R) (ids M) = λ i h k. d₂ .apart i k (in-right i (ids Q) (ids R) h) in (
+        rw e (simp length-append (omega arith)),
+        rw e (simp (each-append, without-append, without-self, append-assoc)),
+        simp (each-append, those-append, those-self, those-apart (ids M) (ids P) p, those-apart (ids M) (ids Q) q, those-apart (ids M) (ids R) r, append-nil),
+      )
 
 pub moved-same : Moved-same
 unfolding Moved-same
@@ -81,23 +83,26 @@ moved-same s a b d a1 ab bn dn out dist = elim (cases-bool (ltb d a)) [ inl e �
   where
     ms : suc b - a ≡ b - (a - 1)
     ms = omega arith
+
     whole : (s .lines) ≡ take (a - 1) (s .lines) ++ (lines-from s a b ++ drop b (s .lines))
     whole = rw ms (sym (split-three (a - 1) b (s .lines) (omega arith)))
+
     up : ltb d a ≡ true →
-      (length (moved-to s a b d) ≡ how-many s)
-      × (without (ids (lines-from s a b)) (ids (moved-to s a b d)) ≡ without (ids (lines-from s a b)) (ids (s .lines)))
-      × (those (λ i. any (eqb i) (ids (lines-from s a b))) (ids (moved-to s a b d)) ≡ ids (lines-from s a b))
+        (length (moved-to s a b d) ≡ how-many s)
+        × (without (ids (lines-from s a b)) (ids (moved-to s a b d)) ≡ without (ids (lines-from s a b)) (ids (s .lines)))
+        × (those (λ i. any (eqb i) (ids (lines-from s a b))) (ids (moved-to s a b d)) ≡ ids (lines-from s a b))
     up e =
         let h : d ≤ a - 1 = omega (arith, ltb-true d a e) in
         let f : take (a - 1) (s .lines) ≡ take d (s .lines) ++ drop d (take (a - 1) (s .lines)) =
-              sym (take-append-drop d (take (a - 1) (s .lines))) ∙ ap (λ t. t ++ drop d (take (a - 1) (s .lines))) (take-take d (a - 1) (s .lines) h) in
+        sym (take-append-drop d (take (a - 1) (s .lines))) ∙ ap (λ t. t ++ drop d (take (a - 1) (s .lines))) (take-take d (a - 1) (s .lines) h) in
         rw e (swap-up (take d (s .lines)) (drop d (take (a - 1) (s .lines))) (lines-from s a b) (drop b (s .lines)) (s .lines) dist
-          (whole ∙ ap (λ t. t ++ (lines-from s a b ++ drop b (s .lines))) f ∙ append-assoc (take d (s .lines)) (drop d (take (a - 1) (s .lines))) (lines-from s a b ++ drop b (s .lines))))
+        (whole ∙ ap (λ t. t ++ (lines-from s a b ++ drop b (s .lines))) f ∙ append-assoc (take d (s .lines)) (drop d (take (a - 1) (s .lines))) (lines-from s a b ++ drop b (s .lines))))
+
     down : ltb d a ≡ false →
-      (length (moved-to s a b d) ≡ how-many s)
-      × (without (ids (lines-from s a b)) (ids (moved-to s a b d)) ≡ without (ids (lines-from s a b)) (ids (s .lines)))
-      × (those (λ i. any (eqb i) (ids (lines-from s a b))) (ids (moved-to s a b d)) ≡ ids (lines-from s a b))
+        (length (moved-to s a b d) ≡ how-many s)
+        × (without (ids (lines-from s a b)) (ids (moved-to s a b d)) ≡ without (ids (lines-from s a b)) (ids (s .lines)))
+        × (those (λ i. any (eqb i) (ids (lines-from s a b))) (ids (moved-to s a b d)) ≡ ids (lines-from s a b))
     down e =
         let h : b ≤ d = grind arith in
         rw e (swap-down (take (a - 1) (s .lines)) (take (d - b) (drop b (s .lines))) (lines-from s a b) (drop d (s .lines)) (s .lines) dist
-          (whole ∙ ap (λ t. take (a - 1) (s .lines) ++ (lines-from s a b ++ t)) (split-drop b d (s .lines) h)))
+        (whole ∙ ap (λ t. take (a - 1) (s .lines) ++ (lines-from s a b ++ t)) (split-drop b d (s .lines) h)))

@@ -57,8 +57,8 @@ simple-keeps w b undo v = undo-keeps w (w .before)
 simple-keeps w b redo v = redo-keeps w (w .undone)
 simple-keeps w b (save n) v =
     pick-at (Keeps w) (or (not (none-of (file-of w n))) (ltb (length (w .kept)) 64)) _ _
-      (pick-at (Keeps w) (eqb (b .fails) 0) _ _ (pick-at (Keeps w) (can-write (w .now) b) _ _ (record { stays = never }) (no-keeps 4 w)) (no-keeps (b .fails) w))
-      (no-keeps 7 w)
+    (pick-at (Keeps w) (eqb (b .fails) 0) _ _ (pick-at (Keeps w) (can-write (w .now) b) _ _ (record { stays = never }) (no-keeps 4 w)) (no-keeps (b .fails) w))
+    (no-keeps 7 w)
 simple-keeps w b (edit n) v = finished-keeps w true _
 simple-keeps w b (load n) v =
     pick-at (Keeps w) (eqb (b .fails) 0) _ _ (finished-keeps w true (file-work (start-work w) (file-of w n) (λ f. deed-work (start-work w) b (append (f .lines))))) (no-keeps (b .fails) w)
@@ -71,12 +71,12 @@ all-or-none w (plain c) = simple-keeps w _ (c .deed) _ .stays
 all-or-none w (all-lines r like p c) =
     let b : Both = range-at (w .now) (w .pattern) r 1 (how-many (w .now)) in
     let k : Keeps w (turn w (all-lines r like p c)) =
-          pick-at (Keeps w) (eqb (b .fails) 0) _ _
-            (pick-at (Keeps w) (real (w .now) b) _ _
-              (pick-at (Keeps w) (none-of (meant (b .pattern) p)) _ _ (no-keeps 10 w)
-                (finished-keeps w (changes (c .deed)) (for-all (start-work w) b like (meant (b .pattern) p) c (pattern-of (meant (b .pattern) p)))))
-              (no-keeps 4 w))
-            (no-keeps (b .fails) w) in
+    pick-at (Keeps w) (eqb (b .fails) 0) _ _
+    (pick-at (Keeps w) (real (w .now) b) _ _
+    (pick-at (Keeps w) (none-of (meant (b .pattern) p)) _ _ (no-keeps 10 w)
+    (finished-keeps w (changes (c .deed)) (for-all (start-work w) b like (meant (b .pattern) p) c (pattern-of (meant (b .pattern) p)))))
+    (no-keeps 4 w))
+    (no-keeps (b .fails) w) in
     k .stays
 
 -- lines that stay
@@ -123,14 +123,14 @@ many-lines w c (i ∷ is) e =
     let u : Work = on-with w (simple-work v (for-one c)) in
     let h : Has-lines (w .stand .lines) u = pick-at (Has-lines (w .stand .lines)) (eqb (simple-work v (for-one c) .fails) 6) _ _ refl (simple-lines v (for-one c) (for-one-shows c e)) in
     pick-at (Has-lines (w .stand .lines)) (eqb (place-of i (w .stand .lines) 0) 0) _ _ (many-lines w c is e)
-      (pick-at (Has-lines (w .stand .lines)) (goes-on u) _ _ (many-lines u c is e ∙ h) h)
+    (pick-at (Has-lines (w .stand .lines)) (goes-on u) _ _ (many-lines u c is e ∙ h) h)
 
 pub all-lines-lines : (w : Work) (b : Both) (like : Bool) (p : List ℕ) (c : Simple) (qs : List Pattern) → changes (c .deed) ≡ false → Has-lines (w .stand .lines) (for-all w b like p c qs)
 unfolding for-all
 all-lines-lines w b like p c [] e = refl
 all-lines-lines w b like p c (q ∷ qs) e =
     pick-at (Has-lines (w .stand .lines)) (none-of (noted like q (lines-from (w .stand) (b .from) (b .to)))) _ _ refl
-      (many-lines _ c (noted like q (lines-from (w .stand) (b .from) (b .to))) e)
+    (many-lines _ c (noted like q (lines-from (w .stand) (b .from) (b .to))) e)
 
 abbrev pub Same-lines : Plain → Turn → Type 0
 Same-lines w t = t .next .now .lines ≡ w .now .lines
@@ -157,8 +157,8 @@ simple-same w b undo v h e f = absurd (true≢false f)
 simple-same w b redo v h e f = absurd (true≢false f)
 simple-same w b (save n) v h e f =
     pick-at (Same-lines w) (or (not (none-of (file-of w n))) (ltb (length (w .kept)) 64)) _ _
-      (pick-at (Same-lines w) (eqb (b .fails) 0) _ _ (pick-at (Same-lines w) (can-write (w .now) b) _ _ refl refl) refl)
-      refl
+    (pick-at (Same-lines w) (eqb (b .fails) 0) _ _ (pick-at (Same-lines w) (can-write (w .now) b) _ _ refl refl) refl)
+    refl
 simple-same w b (edit n) v h e f = absurd (true≢false e)
 simple-same w b (load n) v h e f = absurd (true≢false e)
 simple-same w b files v h e f = refl
@@ -170,8 +170,8 @@ shown-same w (plain c) e f = simple-same w _ (c .deed) _ (simple-lines (start-wo
 shown-same w (all-lines r like p c) e f =
     let b : Both = range-at (w .now) (w .pattern) r 1 (how-many (w .now)) in
     pick-at (Same-lines w) (eqb (b .fails) 0) _ _
-      (pick-at (Same-lines w) (real (w .now) b) _ _
-        (pick-at (Same-lines w) (none-of (meant (b .pattern) p)) _ _ refl
-          (finished-lines w (changes (c .deed)) _ (all-lines-lines (start-work w) b like (meant (b .pattern) p) c (pattern-of (meant (b .pattern) p)) e)))
-        refl)
-      refl
+    (pick-at (Same-lines w) (real (w .now) b) _ _
+    (pick-at (Same-lines w) (none-of (meant (b .pattern) p)) _ _ refl
+    (finished-lines w (changes (c .deed)) _ (all-lines-lines (start-work w) b like (meant (b .pattern) p) c (pattern-of (meant (b .pattern) p)) e)))
+    refl)
+    refl

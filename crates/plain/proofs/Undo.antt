@@ -44,8 +44,8 @@ simple-noted w b (save n) v e = absurd (false≢true e)
 simple-noted w b (edit n) v e = finished-noted w _
 simple-noted w b (load n) v e =
     pick-by (Noted w) (eqb (b .fails) 0) _ _
-      (λ _. finished-noted w (file-work (start-work w) (file-of w n) (λ f. deed-work (start-work w) b (append (f .lines)))))
-      (λ h. no-noted w (b .fails) (eqb-false (b .fails) 0 h))
+    (λ _. finished-noted w (file-work (start-work w) (file-of w n) (λ f. deed-work (start-work w) b (append (f .lines)))))
+    (λ h. no-noted w (b .fails) (eqb-false (b .fails) 0 h))
 simple-noted w b files v e = absurd (false≢true e)
 simple-noted w b bad v e = absurd (false≢true e)
 
@@ -57,11 +57,11 @@ turn-noted w (all-lines r like p c) e =
     let q : List ℕ = meant (b .pattern) p in
     let v : Work = for-all (start-work w) b like q c (pattern-of q) in
     pick-by (Noted w) (eqb (b .fails) 0) _ _
-      (λ _. pick-by (Noted w) (real (w .now) b) _ _
-        (λ _. pick-by (Noted w) (none-of q) _ _ (λ _. no-noted w 10 (λ h. omega arith))
-          (λ _. subst (λ t. Noted w (finished w t v)) (sym e) (finished-noted w v)))
-        (λ _. no-noted w 4 (λ h. omega arith)))
-      (λ h. no-noted w (b .fails) (eqb-false (b .fails) 0 h))
+    (λ _. pick-by (Noted w) (real (w .now) b) _ _
+    (λ _. pick-by (Noted w) (none-of q) _ _ (λ _. no-noted w 10 (λ h. omega arith))
+    (λ _. subst (λ t. Noted w (finished w t v)) (sym e) (finished-noted w v)))
+    (λ _. no-noted w 4 (λ h. omega arith)))
+    (λ h. no-noted w (b .fails) (eqb-false (b .fails) 0 h))
 
 pub back-and-on : (x : Plain) (s : Stand) (ss : List Stand) → x .before ≡ s ∷ ss →
     (turn x (alone undo) .next .now ≡ s) × (turn (turn x (alone undo) .next) (alone redo) .next .now ≡ x .now)
@@ -83,10 +83,10 @@ marks-stay w a r h =
     let t : Found = resolve (w .now) (b .pattern) a in
     let v : Work = start-work w in
     let m : Has-marks (w .now .marks) (simple-work v c) =
-          pick-at (Has-marks (w .now .marks)) (eqb (b .fails) 0) _ _
-            (pick-at (Has-marks (w .now .marks)) (real (w .now) b) _ _
-              (pick-at (Has-marks (w .now .marks)) (eqb (t .fails) 0) _ _
-                (pick-at (Has-marks (w .now .marks)) (leb (b .from) (t .at) && ltb (t .at) (b .to)) _ _ refl refl) refl)
-              refl)
-            refl in
+    pick-at (Has-marks (w .now .marks)) (eqb (b .fails) 0) _ _
+    (pick-at (Has-marks (w .now .marks)) (real (w .now) b) _ _
+    (pick-at (Has-marks (w .now .marks)) (eqb (t .fails) 0) _ _
+    (pick-at (Has-marks (w .now .marks)) (leb (b .from) (t .at) && ltb (t .at) (b .to)) _ _ refl refl) refl)
+    refl)
+    refl in
     pick-at (λ (x : Turn). x .next .now .marks ≡ w .now .marks) (eqb (simple-work v c .fails) 0) _ _ m refl

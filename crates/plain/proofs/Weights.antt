@@ -28,7 +28,7 @@ in-text-in l ls h = any-in _ l ls h (and-from (eqb (l .id) (l .id)) (same (l .by
 pub in-text-not : (l : Line) (ls : List Line) → (In (l .id) (ids ls) → ⊥) → in-text ls l ≡ false
 in-text-not l ls h =
     any-none _ ls (λ m k. and-left (eqb (m .id) (l .id)) (same (m .bytes) (l .bytes))
-      (ne-eqb (m .id) (l .id) (λ e. h (subst (λ i. In i (ids ls)) e (in-each (λ x. x .id) m ls k)))))
+    (ne-eqb (m .id) (l .id) (λ e. h (subst (λ i. In i (ids ls)) e (in-each (λ x. x .id) m ls k)))))
 
 -- neighbours
 pub last-id : ℕ → List Line → ℕ
@@ -69,12 +69,13 @@ pair-in p qs h = any-in (pair-is p) p qs h (and-from (eqb (p .first) (p .first))
 
 pub pair-not : (p : Next-to) (qs : List Next-to) → ((q : Next-to) → In q qs → (p .second ≡ q .second) → (p .first ≡ q .first) → ⊥) → any (pair-is p) qs ≡ false
 pair-not p qs h =
-    elim (cases-bool (any (pair-is p) qs))
-      [ inl e ↦
+    elim (cases-bool (any (pair-is p) qs)) [
+      | inl e ↦
           (let r = any-from (pair-is p) qs e in
-           let t = and-parts (eqb (p .first) (r .0 .first)) (eqb (p .second) (r .0 .second)) (r .2) in
-           absurd (h (r .0) (r .1) (eqb-true (p .second) (r .0 .second) (t .1)) (eqb-true (p .first) (r .0 .first) (t .0))))
-      | inr e ↦ e ]
+          let t = and-parts (eqb (p .first) (r .0 .first)) (eqb (p .second) (r .0 .second)) (r .2) in
+          absurd (h (r .0) (r .1) (eqb-true (p .second) (r .0 .second) (t .1)) (eqb-true (p .first) (r .0 .first) (t .0))))
+      | inr e ↦ e
+    ]
 
 -- a text P, M, R, in which N stands in M's place
 pub record Cut (P M N R : List Line) : Type 0 where
@@ -121,9 +122,10 @@ sum-cut P M N R c =
     gone l h k =
         let i = in-each (λ x. x .id) l M h in
         let k₁ : In (l .id) (ids P ++ (ids N ++ ids R)) = simp each-append at k in
-        elim (in-cases (l .id) (ids P) (ids N ++ ids R) k₁)
-          [ inl g ↦ c .pm (l .id) g i
-          | inr g ↦ elim (in-cases (l .id) (ids N) (ids R) g) [ inl q ↦ c .mn (l .id) i q | inr q ↦ c .mr (l .id) i q ] ]
+        elim (in-cases (l .id) (ids P) (ids N ++ ids R) k₁) [
+          | inl g ↦ c .pm (l .id) g i
+          | inr g ↦ elim (in-cases (l .id) (ids N) (ids R) g) [ inl q ↦ c .mn (l .id) i q | inr q ↦ c .mr (l .id) i q ]
+        ]
 
 -- the places that don't go on alike
 module _ (P M N : List Line) where
@@ -140,44 +142,49 @@ module _ (P M N : List Line) where
   second-of : (R : List Line) (q : Next-to) → In q (new-pairs R) → In (q .second) (ids P) ⊎ (In (q .second) (ids N) ⊎ In q (neighbours (last-id (last-id 0 P) N) R))
   unfolding new-pairs
   second-of R q h =
-      elim (in-cases q (neighbours 0 P) _ h)
-        [ inl g ↦ inl (neighbour-second 0 P q g)
-        | inr g ↦ elim (in-cases q (neighbours (last-id 0 P) N) _ g) [ inl k ↦ inr (inl (neighbour-second (last-id 0 P) N q k)) | inr k ↦ inr (inr k) ] ]
+      elim (in-cases q (neighbours 0 P) _ h) [
+        | inl g ↦ inl (neighbour-second 0 P q g)
+        | inr g ↦ elim (in-cases q (neighbours (last-id 0 P) N) _ g) [ inl k ↦ inr (inl (neighbour-second (last-id 0 P) N q k)) | inr k ↦ inr (inr k) ]
+      ]
 
   breaks-m : (R : List Line) → Cut P M N R → those (test R) (neighbours (last-id 0 P) M) ≡ neighbours (last-id 0 P) M
   unfolding test
   breaks-m R c =
       those-all (test R) (neighbours (last-id 0 P) M) (λ p h.
-        let i = neighbour-second (last-id 0 P) M p h in
-        ap not (pair-not p (new-pairs R) (λ q k e _.
-          let j : In (q .second) (ids M) = subst (λ t. In t (ids M)) e i in
-          elim (second-of R q k)
-            [ inl g ↦ c .pm (q .second) g j
-            | inr g ↦ elim g [ inl u ↦ c .mn (q .second) j u | inr u ↦ c .mr (q .second) j (neighbour-second _ R q u) ] ])))
+      let i = neighbour-second (last-id 0 P) M p h in
+      ap not (pair-not p (new-pairs R) (λ q k e _.
+      let j : In (q .second) (ids M) = subst (λ t. In t (ids M)) e i in
+      elim (second-of R q k) [
+        | inl g ↦ c .pm (q .second) g j
+        | inr g ↦ elim g [ inl u ↦ c .mn (q .second) j u | inr u ↦ c .mr (q .second) j (neighbour-second _ R q u) ]
+      ])))
 
   tail-none : (r : Line) (R : List Line) → those (test (r ∷ R)) (neighbours (r .id) R) ≡ []
   unfolding new-pairs test neighbours
   tail-none r R =
       those-none (test (r ∷ R)) (neighbours (r .id) R) (λ p h.
-        ap not (pair-in p (new-pairs (r ∷ R)) (in-right p (neighbours 0 P) _ (in-right p (neighbours (last-id 0 P) N) (neighbours (last-id (last-id 0 P) N) (r ∷ R)) (inr h)))))
+      ap not (pair-in p (new-pairs (r ∷ R)) (in-right p (neighbours 0 P) _ (in-right p (neighbours (last-id 0 P) N) (neighbours (last-id (last-id 0 P) N) (r ∷ R)) (inr h)))))
 
   head-same : (r : Line) (R : List Line) (j : ℕ) → j ≡ last-id (last-id 0 P) N → test (r ∷ R) (record { first = j; second = r .id }) ≡ false
   unfolding new-pairs test neighbours
   head-same r R j e =
       ap not (pair-in (record { first = j; second = r .id }) (new-pairs (r ∷ R))
-        (in-right _ (neighbours 0 P) _ (in-right _ (neighbours (last-id 0 P) N) (neighbours (last-id (last-id 0 P) N) (r ∷ R)) (inl (ap (λ t. record { first = t; second = r .id }) (sym e))))))
+      (in-right _ (neighbours 0 P) _ (in-right _ (neighbours (last-id 0 P) N) (neighbours (last-id (last-id 0 P) N) (r ∷ R)) (inl (ap (λ t. record { first = t; second = r .id }) (sym e))))))
 
   head-differs : (r : Line) (R : List Line) (j : ℕ) → Cut P M N (r ∷ R) → (j ≡ last-id (last-id 0 P) N → ⊥) → test (r ∷ R) (record { first = j; second = r .id }) ≡ true
   unfolding test neighbours
   head-differs r R j c d =
       ap not (pair-not (record { first = j; second = r .id }) (new-pairs (r ∷ R)) (λ q k e f.
-        elim (second-of (r ∷ R) q k)
-          [ inl g ↦ c .pr (q .second) g (inl e)
-          | inr g ↦ elim g
-              [ inl u ↦ c .nr (q .second) u (inl e)
-              | inr u ↦ elim u
-                  [ inl v ↦ d (f ∙ sym (ap (λ t. t .first) v))
-                  | inr v ↦ distinct-cons (r .id) (ids R) (c .rest) .0 (subst (λ t. In t (ids R)) (sym e) (neighbour-second (r .id) R q v)) ] ] ]))
+      elim (second-of (r ∷ R) q k) [
+        | inl g ↦ c .pr (q .second) g (inl e)
+        | inr g ↦ elim g [
+          | inl u ↦ c .nr (q .second) u (inl e)
+          | inr u ↦ elim u [
+            | inl v ↦ d (f ∙ sym (ap (λ t. t .first) v))
+            | inr v ↦ distinct-cons (r .id) (ids R) (c .rest) .0 (subst (λ t. In t (ids R)) (sym e) (neighbour-second (r .id) R q v))
+          ]
+        ]
+      ]))
 
 breaks-r : (P M N R : List Line) → Cut P M N R → length (those (test P M N R) (neighbours (last-id (last-id 0 P) M) R)) ≡ one-break M N R
 unfolding neighbours last-id
@@ -229,7 +236,8 @@ cut-of P M N R n d o e one =
       nr = λ i h k. omega (arith, old-ids n R (o₂ .1) i k, new i h);
       rest = d₂ .second;
       one-m = λ i h. old-ids n M (o₂ .0) i h .0;
-      one-n = λ i h. omega (arith, new i h) }
+      one-n = λ i h. omega (arith, new i h);
+    }
 
 pub extra-same : (M N R : List Line) (n a b : ℕ) → length M ≡ b - a → length R ≡ n - b → a ≤ b → b ≤ n → one-break M N R ≡ extra-break n a b N
 extra-same M N [] n a b p q h k = grind arith
@@ -264,9 +272,10 @@ put-weight-one s s₁ n a b ls one ab bn dist old new e =
     let lm : length M ≡ b - a = simp (length-take, length-drop) (omega arith) in
     let lr : length R ≡ how-many s - b = length-drop b (s .lines) in
     let x : one-break M ls R ≡ extra-break (how-many s) a b ls = extra-same M ls R (how-many s) a b lm lr ab bn in
-    let y : one-break ls M R ≡ one-break M ls R = break-flip M ls R in
-    ( weight-cut P M ls R s₁ s c (sym whole) e₁ ∙ ap (λ t. 256 + added-up line-weight M + 64 * t) (omega (arith, lm, x))
-    , weight-cut P ls M R s s₁ (cut-flip P M ls R c) e₁ (sym whole) ∙ ap (λ t. 256 + added-up line-weight ls + 64 * (length ls + t)) (y ∙ x))
+    let y : one-break ls M R ≡ one-break M ls R = break-flip M ls R in (
+      weight-cut P M ls R s₁ s c (sym whole) e₁ ∙ ap (λ t. 256 + added-up line-weight M + 64 * t) (omega (arith, lm, x)),
+      weight-cut P ls M R s s₁ (cut-flip P M ls R c) e₁ (sym whole) ∙ ap (λ t. 256 + added-up line-weight ls + 64 * (length ls + t)) (y ∙ x),
+    )
 
 pub put-weight-back : Put-weight-back
 unfolding Put-weight-back
@@ -275,13 +284,14 @@ put-weight-back s s₁ n a b ls one ab bn dist old new e = put-weight-one s s₁
 pub put-weight : Put-weight
 unfolding Put-weight neighbours
 put-weight s s₁ n a b ls ab bn dist old new e =
-    elim (one-or-none n (s .lines) old)
-      [ inl one ↦ put-weight-one s s₁ n a b ls one ab bn dist old new e .0
+    elim (one-or-none n (s .lines) old) [
+      | inl one ↦ put-weight-one s s₁ n a b ls one ab bn dist old new e .0
       | inr nil ↦
           (let z : how-many s ≡ 0 = ap length nil in
-           let b0 : b ≡ 0 = omega arith in
-           let a0 : a ≡ 0 = omega arith in
-           rw (nil, a0, b0)) ]
+          let b0 : b ≡ 0 = omega arith in
+          let a0 : a ≡ 0 = omega arith in
+          rw (nil, a0, b0))
+    ]
 
 pub zero-differs : Zero-differs
 unfolding Zero-differs neighbours same

@@ -6,6 +6,7 @@ use Prim.Native.Nat.{ℕ, zero, suc, _+_, _*_, _-_, _/_, _%_, _≤_, _<_}
 use lib.Dec.{eqb, ltb, leb}
 use lib.ListN.{length, getD, take, drop}
 use Rattle.plain.specs.Pattern.{pick, or, every, any, each, those, none-of, same, between, Pattern, Got, none, got, with-got, next-is, less-one, pattern-of, all-bytes}
+
 -- where a line is: 0 the current one, 1 the last, 2 a number, 3 a mark, 4 the next that matches, 5 the one before that matches; and so many lines on and back
 pub record Address : Type 0 where
   pub kind : ℕ
@@ -32,8 +33,8 @@ pub data Deed : Type 0 where
   print : Deed
   number : Deed
   where-is : Deed
-  swap : List ℕ → List ℕ → ℕ → Deed           -- a pattern, what is put there, which (0 all)
-  go-to : Deed                                    -- an address alone
+  swap : List ℕ → List ℕ → ℕ → Deed  -- a pattern, what is put there, which (0 all)
+  go-to : Deed  -- an address alone
   undo : Deed
   redo : Deed
   save : List ℕ → Deed
@@ -92,7 +93,7 @@ offsets (suc n) a [] = got a []
 offsets (suc n) a (c ∷ cs) =
     pick (ltb 9 (digits-long cs)) none
     (pick (eqb c 43) (offsets n (record { kind = a .kind; number = a .number; text = a .text; on = a .on + amount cs; back = a .back }) (after-digits cs))
-        (pick (eqb c 45) (offsets n (record { kind = a .kind; number = a .number; text = a .text; on = a .on; back = a .back + amount cs }) (after-digits cs)) (got a (c ∷ cs))))
+    (pick (eqb c 45) (offsets n (record { kind = a .kind; number = a .number; text = a .text; on = a .on; back = a .back + amount cs }) (after-digits cs)) (got a (c ∷ cs))))
 
 abbrev pub starts-address : List ℕ → Bool
 starts-address [] = false
@@ -106,7 +107,7 @@ base (c ∷ cs) =
     (pick (eqb c 39) (pick (pick (none-of cs) false (between 97 122 (getD cs 0 0))) (got (address 3 (getD cs 0 0) []) (less-one cs)) none)
     (pick (eqb c 47) (with-got (up-to 47 [] cs) (λ t ds. got (address 4 0 t) ds))
     (pick (eqb c 63) (with-got (up-to 63 [] cs) (λ t ds. got (address 5 0 t) ds))
-        (pick (or (eqb c 43) (eqb c 45)) (got here (c ∷ cs)) none))))))
+    (pick (or (eqb c 43) (eqb c 45)) (got here (c ∷ cs)) none))))))
 
 abbrev pub an-address : List ℕ → Got ℕ Address
 an-address cs = with-got (base cs) (λ a ds. offsets (suc (length ds)) a ds)
@@ -121,8 +122,8 @@ unfoldable pub a-range : List ℕ → Got ℕ Range
 a-range cs =
     pick (next-is 37 cs) (got (range-of 4 here here) (less-one cs))
     (pick (starts-address cs)
-        (with-got (an-address cs) (λ a ds. pick (or (next-is 44 ds) (next-is 59 ds)) (with-got (or-here (less-one ds)) (λ b es. got (range-of (pick (next-is 44 ds) 2 3) a b) es)) (got (range-of 1 a here) ds)))
-        (pick (next-is 44 cs) (got (range-of 4 here here) (less-one cs)) (got (range-of 0 here here) cs)))
+    (with-got (an-address cs) (λ a ds. pick (or (next-is 44 ds) (next-is 59 ds)) (with-got (or-here (less-one ds)) (λ b es. got (range-of (pick (next-is 44 ds) 2 3) a b) es)) (got (range-of 1 a here) ds)))
+    (pick (next-is 44 cs) (got (range-of 4 here here) (less-one cs)) (got (range-of 0 here here) cs)))
 
 -- lines given after the first
 unfoldable pub lines-of : List ℕ → List ℕ → List (List ℕ)
@@ -142,7 +143,7 @@ ended d cs = pick (none-of cs) (got d []) none
 abbrev pub which-of : List ℕ → Got ℕ ℕ
 which-of cs =
     pick (none-of cs) (got 1 []) (pick (same cs (103 ∷ [])) (got 0 [])
-        (pick (starts-digit cs && (none-of (after-digits cs) && (leb 1 (number-part 0 cs) && leb (digits-long cs) 3))) (got (number-part 0 cs) []) none))
+    (pick (starts-digit cs && (none-of (after-digits cs) && (leb 1 (number-part 0 cs) && leb (digits-long cs) 3))) (got (number-part 0 cs) []) none))
 
 unfoldable pub deed : List ℕ → Got ℕ Deed
 deed [] = got go-to []
@@ -165,7 +166,7 @@ deed (c ∷ cs) =
     (pick (eqb c 114) (with-got (a-file cs) (λ n ds. got (load n) ds))
     (pick (eqb c 102) (ended files cs)
     (pick (eqb c 115) (pick (next-is 47 cs) (with-got (up-to 47 [] (less-one cs)) (λ p ds. with-got (up-to 47 [] ds) (λ r es. with-got (which-of es) (λ k fs. got (swap p r k) fs)))) none)
-        none)))))))))))))))))
+    none)))))))))))))))))
 
 abbrev pub simple : List ℕ → Got ℕ Simple
 simple cs = with-got (a-range cs) (λ r ds. with-got (deed ds) (λ d es. got (record { range = r; deed = d }) es))
@@ -196,10 +197,10 @@ for-many bad = false
 unfoldable pub command : List ℕ → Got ℕ Command
 command cs =
     with-got (a-range cs) (λ r ds.
-        pick (or (next-is 103 ds) (next-is 118 ds))
-            (pick (next-is 47 (less-one ds))
-                (with-got (up-to 47 [] (less-one (less-one ds))) (λ p es. with-got (simple es) (λ s fs. pick (for-many (s .deed)) (got (all-lines r (next-is 103 ds) p s) fs) none))) none)
-            (with-got (deed ds) (λ d es. got (plain (record { range = r; deed = d })) es)))
+    pick (or (next-is 103 ds) (next-is 118 ds))
+    (pick (next-is 47 (less-one ds))
+    (with-got (up-to 47 [] (less-one (less-one ds))) (λ p es. with-got (simple es) (λ s fs. pick (for-many (s .deed)) (got (all-lines r (next-is 103 ds) p s) fs) none))) none)
+    (with-got (deed ds) (λ d es. got (plain (record { range = r; deed = d })) es)))
 
 unfoldable pub whole-command : Got ℕ Command → List Command
 whole-command none = []

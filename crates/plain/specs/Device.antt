@@ -7,6 +7,7 @@ use Prim.Native.Nat.{ℕ, zero, suc, _+_, _*_, _-_, _/_, _%_, _≤_, _<_}
 use lib.Dec.{eqb, ltb, leb}
 use lib.ListN.{length, getD, take, drop}
 use Rattle.plain.specs.Pattern.{pick, or, every}
+
 abbrev pub Page : Type 0
 Page = List ℕ
 
@@ -18,7 +19,7 @@ pub record Tape : Type 0 where
 pub record Device : Type 0 where
   pub first : Tape
   pub second : Tape
-  pub room : ℕ                       -- how many records a tape has room for
+  pub room : ℕ  -- how many records a tape has room for
 
 abbrev pub tape : List Page → ℕ → Tape
 tape rs n = record { records = rs; loose = n }

@@ -7,6 +7,7 @@ use lib.Dec.{eqb, ltb, leb}
 use lib.ListN.{length, getD, take, drop}
 use Rattle.plain.specs.Pattern.{pick, or, every, any, each, those, flat, added-up, none-of, same, eight, with-length, Pattern, matches, pattern-of, Put, replaced}
 use Rattle.plain.specs.Command.{Address, Range, Deed, append, insert, change, delete, join, move, copy, mark, print, number, where-is, swap, go-to, undo, redo, save, edit, load, files, bad, Simple, Command, plain, all-lines, reads}
+
 pub record Line : Type 0 where
   pub id : ℕ
   pub bytes : List ℕ
@@ -17,7 +18,7 @@ pub record Mark : Type 0 where
 
 pub record Stand : Type 0 where
   pub lines : List Line
-  pub at : ℕ                         -- the current line, from 1; 0 if there is none
+  pub at : ℕ  -- the current line, from 1; 0 if there is none
   pub marks : List Mark
 
 pub record File : Type 0 where
@@ -26,11 +27,11 @@ pub record File : Type 0 where
 
 pub record Plain : Type 0 where
   pub now : Stand
-  pub before : List Stand            -- the newest first, up to 64
+  pub before : List Stand  -- the newest first, up to 64
   pub undone : List Stand
   pub kept : List File
-  pub pattern : List ℕ               -- the last that was given
-  pub next : ℕ                       -- the next line's id
+  pub pattern : List ℕ  -- the last that was given
+  pub next : ℕ  -- the next line's id
 
 pub record Turn : Type 0 where
   pub reply : ℕ
@@ -112,7 +113,7 @@ base-of s last a =
     (pick (eqb (a .kind) 2) (found (a .number) last)
     (pick (eqb (a .kind) 3) (pick (eqb (mark-place s (marked (s .marks) (a .number))) 0) (lost 3) (found (mark-place s (marked (s .marks) (a .number))) last))
     (pick (none-of (meant last (a .text))) (lost 10)
-        (search s (meant last (a .text)) (pick (eqb (a .kind) 4) (onward s) (backward s)) (pattern-of (meant last (a .text))))))))
+    (search s (meant last (a .text)) (pick (eqb (a .kind) 4) (onward s) (backward s)) (pattern-of (meant last (a .text))))))))
 
 abbrev pub with-offset : Stand → Address → Found → Found
 with-offset s a f =
@@ -147,7 +148,7 @@ range-at s last r a b =
     (pick (eqb (r .kind) 1) (then-found (resolve s last (r .first)) (λ n p. both-of n n p))
     (pick (eqb (r .kind) 2) (then-found (resolve s last (r .first)) (λ n p. then-found (resolve s p (r .second)) (λ m q. pick (leb n m) (both-of n m q) (both-lost 4))))
     (pick (eqb (r .kind) 3) (then-found (resolve s last (r .first)) (λ n p. then-found (resolve (at-line s n) p (r .second)) (λ m q. pick (leb n m) (both-of n m q) (both-lost 4))))
-        (both-of 1 (how-many s) last))))
+    (both-of 1 (how-many s) last))))
 
 -- lines that are there, and at least one
 abbrev pub real : Stand → Both → Bool
@@ -209,15 +210,16 @@ swapped k p r n (l ∷ ls) =
     record {
       lines = record { id = l .id; bytes = u .bytes } ∷ (w .lines);
       last = pick (eqb (w .last) 0) (pick (eqb (u .times) 0) 0 n) (w .last);
-      too-long = or (ltb 1024 (length (u .bytes))) (w .too-long) }
+      too-long = or (ltb 1024 (length (u .bytes))) (w .too-long);
+    }
 
 unfoldable pub swap-work : Work → Both → List ℕ → List ℕ → ℕ → List Pattern → Work
 swap-work w b p r k [] = failed 10 w
 swap-work w b p r k (q ∷ qs) =
     let u : Swapped = swapped k q r (b .from) (lines-from (w .stand) (b .from) (b .to)) in
     pick (u .too-long) (failed 7 w)
-        (pick (eqb (u .last) 0) (failed 6 w)
-            (worked w (with-text (w .stand) (put-lines (w .stand) (b .from - 1) (b .to) (u .lines)) (u .last)) (w .next) p []))
+    (pick (eqb (u .last) 0) (failed 6 w)
+    (worked w (with-text (w .stand) (put-lines (w .stand) (b .from - 1) (b .to) (u .lines)) (u .last)) (w .next) p []))
 
 abbrev pub short-all : List (List ℕ) → Bool
 short-all ls = every (λ l. leb (length l) 1024) ls
@@ -228,7 +230,7 @@ glued ls = flat (λ l. l .bytes) ls
 abbrev pub moved-to : Stand → ℕ → ℕ → ℕ → List Line
 moved-to s a b d =
     pick (ltb d a) (take d (s .lines) ++ lines-from s a b ++ drop d (take (a - 1) (s .lines)) ++ drop b (s .lines))
-        (take (a - 1) (s .lines) ++ take (d - b) (drop b (s .lines)) ++ lines-from s a b ++ drop d (s .lines))
+    (take (a - 1) (s .lines) ++ take (d - b) (drop b (s .lines)) ++ lines-from s a b ++ drop d (s .lines))
 
 -- where one is after lines went: at the next, or the last there is
 abbrev pub after-gone : ℕ → ℕ → ℕ
@@ -237,42 +239,42 @@ after-gone a n = smaller a n
 unfoldable pub deed-work : Work → Both → Deed → Work
 deed-work w b (append ls) =
     pick (short-all ls)
-        (pick (leb (b .to) (how-many (w .stand)))
-            (worked w (with-text (w .stand) (put-lines (w .stand) (b .to) (b .to) (new-lines (w .next) ls)) (b .to + length ls)) (w .next + length ls) (b .pattern) []) (failed 4 w)) (failed 7 w)
+    (pick (leb (b .to) (how-many (w .stand)))
+    (worked w (with-text (w .stand) (put-lines (w .stand) (b .to) (b .to) (new-lines (w .next) ls)) (b .to + length ls)) (w .next + length ls) (b .pattern) []) (failed 4 w)) (failed 7 w)
 deed-work w b (insert ls) =
     pick (short-all ls)
-        (pick (leb (b .to) (how-many (w .stand)))
-            (worked w (with-text (w .stand) (put-lines (w .stand) (b .to - 1) (b .to - 1) (new-lines (w .next) ls)) (pick (none-of ls) (b .to) (b .to - 1 + length ls))) (w .next + length ls) (b .pattern) []) (failed 4 w)) (failed 7 w)
+    (pick (leb (b .to) (how-many (w .stand)))
+    (worked w (with-text (w .stand) (put-lines (w .stand) (b .to - 1) (b .to - 1) (new-lines (w .next) ls)) (pick (none-of ls) (b .to) (b .to - 1 + length ls))) (w .next + length ls) (b .pattern) []) (failed 4 w)) (failed 7 w)
 deed-work w b (change ls) =
     pick (short-all ls)
-        (pick (real (w .stand) b)
-            (worked w (with-text (w .stand) (put-lines (w .stand) (b .from - 1) (b .to) (new-lines (w .next) ls))
-                (pick (none-of ls) (after-gone (b .from) (how-many (w .stand) - (suc (b .to) - b .from))) (b .from - 1 + length ls))) (w .next + length ls) (b .pattern) []) (failed 4 w)) (failed 7 w)
+    (pick (real (w .stand) b)
+    (worked w (with-text (w .stand) (put-lines (w .stand) (b .from - 1) (b .to) (new-lines (w .next) ls))
+    (pick (none-of ls) (after-gone (b .from) (how-many (w .stand) - (suc (b .to) - b .from))) (b .from - 1 + length ls))) (w .next + length ls) (b .pattern) []) (failed 4 w)) (failed 7 w)
 deed-work w b delete =
     pick (real (w .stand) b)
-        (worked w (with-text (w .stand) (put-lines (w .stand) (b .from - 1) (b .to) []) (after-gone (b .from) (how-many (w .stand) - (suc (b .to) - b .from)))) (w .next) (b .pattern) []) (failed 4 w)
+    (worked w (with-text (w .stand) (put-lines (w .stand) (b .from - 1) (b .to) []) (after-gone (b .from) (how-many (w .stand) - (suc (b .to) - b .from)))) (w .next) (b .pattern) []) (failed 4 w)
 deed-work w b join =
     pick (real (w .stand) b)
-        (pick (ltb 1024 (length (glued (lines-from (w .stand) (b .from) (b .to))))) (failed 7 w)
-            (worked w (with-text (w .stand) (put-lines (w .stand) (b .from - 1) (b .to) (record { id = w .next; bytes = glued (lines-from (w .stand) (b .from) (b .to)) } ∷ [])) (b .from)) (suc (w .next)) (b .pattern) [])) (failed 4 w)
+    (pick (ltb 1024 (length (glued (lines-from (w .stand) (b .from) (b .to))))) (failed 7 w)
+    (worked w (with-text (w .stand) (put-lines (w .stand) (b .from - 1) (b .to) (record { id = w .next; bytes = glued (lines-from (w .stand) (b .from) (b .to)) } ∷ [])) (b .from)) (suc (w .next)) (b .pattern) [])) (failed 4 w)
 deed-work w b (move a) =
     pick (real (w .stand) b)
-        (let f : Found = resolve (w .stand) (b .pattern) a in
-         pick (eqb (f .fails) 0)
-            (pick (leb (b .from) (f .at) && ltb (f .at) (b .to)) (failed 4 w)
-                (worked w (with-text (w .stand) (moved-to (w .stand) (b .from) (b .to) (f .at))
-                    (pick (ltb (f .at) (b .from)) (f .at + (suc (b .to) - b .from)) (f .at))) (w .next) (f .pattern) []))
-            (failed (f .fails) w)) (failed 4 w)
+    (let f : Found = resolve (w .stand) (b .pattern) a in
+    pick (eqb (f .fails) 0)
+    (pick (leb (b .from) (f .at) && ltb (f .at) (b .to)) (failed 4 w)
+    (worked w (with-text (w .stand) (moved-to (w .stand) (b .from) (b .to) (f .at))
+    (pick (ltb (f .at) (b .from)) (f .at + (suc (b .to) - b .from)) (f .at))) (w .next) (f .pattern) []))
+    (failed (f .fails) w)) (failed 4 w)
 deed-work w b (copy a) =
     pick (real (w .stand) b)
-        (let f : Found = resolve (w .stand) (b .pattern) a in
-         pick (eqb (f .fails) 0)
-            (worked w (with-text (w .stand) (put-lines (w .stand) (f .at) (f .at) (new-lines (w .next) (each (λ l. l .bytes) (lines-from (w .stand) (b .from) (b .to)))))
-                (f .at + (suc (b .to) - b .from))) (w .next + (suc (b .to) - b .from)) (f .pattern) [])
-            (failed (f .fails) w)) (failed 4 w)
+    (let f : Found = resolve (w .stand) (b .pattern) a in
+    pick (eqb (f .fails) 0)
+    (worked w (with-text (w .stand) (put-lines (w .stand) (f .at) (f .at) (new-lines (w .next) (each (λ l. l .bytes) (lines-from (w .stand) (b .from) (b .to)))))
+    (f .at + (suc (b .to) - b .from))) (w .next + (suc (b .to) - b .from)) (f .pattern) [])
+    (failed (f .fails) w)) (failed 4 w)
 deed-work w b (mark c) =
     pick (real (w .stand) b)
-        (worked w (record { lines = w .stand .lines; at = w .stand .at; marks = put-mark c (id-at (w .stand) (b .to)) (w .stand .marks) }) (w .next) (b .pattern) []) (failed 4 w)
+    (worked w (record { lines = w .stand .lines; at = w .stand .at; marks = put-mark c (id-at (w .stand) (b .to)) (w .stand .marks) }) (w .next) (b .pattern) []) (failed 4 w)
 deed-work w b print = pick (real (w .stand) b) (worked w (at-line (w .stand) (b .to)) (w .next) (b .pattern) (printed false 0 (lines-from (w .stand) (b .from) (b .to)))) (failed 4 w)
 deed-work w b number = pick (real (w .stand) b) (worked w (at-line (w .stand) (b .to)) (w .next) (b .pattern) (printed true (b .from) (lines-from (w .stand) (b .from) (b .to)))) (failed 4 w)
 deed-work w b where-is = pick (leb (b .to) (how-many (w .stand))) (worked w (w .stand) (w .next) (b .pattern) (eight (b .to) ∷ [])) (failed 4 w)
@@ -360,9 +362,9 @@ unfoldable pub many-work : Work → Simple → List ℕ → Work
 many-work w c [] = w
 many-work w c (i ∷ is) =
     pick (eqb (place-of i (w .stand .lines) 0) 0) (many-work w c is)
-        (let v : Work = worked w (at-line (w .stand) (place-of i (w .stand .lines) 0)) (w .next) (w .pattern) [] in
-         let u : Work = on-with w (simple-work v (for-one c)) in
-         pick (goes-on u) (many-work u c is) u)
+    (let v : Work = worked w (at-line (w .stand) (place-of i (w .stand .lines) 0)) (w .next) (w .pattern) [] in
+    let u : Work = on-with w (simple-work v (for-one c)) in
+    pick (goes-on u) (many-work u c is) u)
 
 unfoldable pub noted : Bool → Pattern → List Line → List ℕ
 noted like p ls = each (λ l. l .id) (those (λ l. pick like (matches (l .bytes) p) (not (matches (l .bytes) p))) ls)
@@ -371,7 +373,7 @@ unfoldable pub for-all : Work → Both → Bool → List ℕ → Simple → List
 for-all w b like p c [] = failed 10 w
 for-all w b like p c (q ∷ qs) =
     pick (none-of (noted like q (lines-from (w .stand) (b .from) (b .to)))) (failed 5 w)
-        (many-work (failed 6 (worked w (w .stand) (w .next) p [])) c (noted like q (lines-from (w .stand) (b .from) (b .to))))
+    (many-work (failed 6 (worked w (w .stand) (w .next) p [])) c (noted like q (lines-from (w .stand) (b .from) (b .to))))
 
 -- which deeds change the text, and can be undone
 unfoldable pub changes : Deed → Bool
@@ -405,12 +407,19 @@ start-work w = record { fails = 0; stand = w .now; pattern = w .pattern; next = 
 abbrev pub finished : Plain → Bool → Work → Turn
 finished w c v =
     pick (eqb (v .fails) 0)
-        (record { reply = 0; shows = v .shows; next = record {
-            now = v .stand;
-            before = pick c (take 64 (w .now ∷ (w .before))) (w .before);
-            undone = pick c [] (w .undone);
-            kept = w .kept; pattern = v .pattern; next = v .next } })
-        (no (v .fails) w)
+    (record {
+      reply = 0;
+      shows = v .shows;
+      next = record {
+        now = v .stand;
+        before = pick c (take 64 (w .now ∷ (w .before))) (w .before);
+        undone = pick c [] (w .undone);
+        kept = w .kept;
+        pattern = v .pattern;
+        next = v .next;
+      };
+    })
+    (no (v .fails) w)
 
 abbrev pub file-of : Plain → List ℕ → List File
 file-of w n = those (λ f. same (f .name) n) (w .kept)
@@ -441,9 +450,12 @@ redo-turn w (s ∷ ss) = record { reply = 0; shows = []; next = record { now = s
 abbrev pub with-file : Plain → Both → List ℕ → Turn
 with-file w b n =
     pick (can-write (w .now) b)
-        (record { reply = 0; shows = eight (length (lines-from (w .now) (b .from) (b .to))) ∷ [];
-            next = record { now = w .now; before = w .before; undone = w .undone; kept = put-file n (each (λ l. l .bytes) (lines-from (w .now) (b .from) (b .to))) (w .kept); pattern = b .pattern; next = w .next } })
-        (no 4 w)
+    (record {
+      reply = 0;
+      shows = eight (length (lines-from (w .now) (b .from) (b .to))) ∷ [];
+      next = record { now = w .now; before = w .before; undone = w .undone; kept = put-file n (each (λ l. l .bytes) (lines-from (w .now) (b .from) (b .to))) (w .kept); pattern = b .pattern; next = w .next };
+    })
+    (no 4 w)
 
 abbrev pub edited : Work → File → Work
 edited w f = worked w (record { lines = new-lines (w .next) (f .lines); at = length (f .lines); marks = [] }) (w .next + length (f .lines)) (w .pattern) (eight (length (f .lines)) ∷ [])
@@ -481,12 +493,12 @@ turn w (plain c) = simple-turn w (where-of (w .now) (w .pattern) c) (c .deed) (s
 turn w (all-lines r like p c) =
     let b : Both = range-at (w .now) (w .pattern) r 1 (how-many (w .now)) in
     pick (eqb (b .fails) 0)
-        (pick (real (w .now) b)
-            (pick (none-of (meant (b .pattern) p)) (no 10 w)
-                (finished w (changes (c .deed)) (for-all (start-work w) b like (meant (b .pattern) p) c (pattern-of (meant (b .pattern) p))))) (no 4 w))
-        (no (b .fails) w)
+    (pick (real (w .now) b)
+    (pick (none-of (meant (b .pattern) p)) (no 10 w)
+    (finished w (changes (c .deed)) (for-all (start-work w) b like (meant (b .pattern) p) c (pattern-of (meant (b .pattern) p))))) (no 4 w))
+    (no (b .fails) w)
 
--- THE SMALL CORE: what the first landings know. The requests widen it, until everything is known.
+-- THE CORE: the commands that the editor knows first; later changes widen it, until everything is known.
 abbrev pub plain-address : Address → Bool
 plain-address a = leb (a .kind) 2
 

@@ -5,3 +5,5 @@ pub mod Device
 pub mod Run
 pub mod Promise
 pub mod Weight
+pub mod Numbered
+pub mod Example

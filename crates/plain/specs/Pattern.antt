@@ -78,7 +78,7 @@ pub record Span : Type 0 where
 
 pub data Pattern : Type 0 where
   nothing : Pattern
-  byte : List Span → Bool → Pattern     -- in one of these spans, or in none
+  byte : List Span → Bool → Pattern  -- in one of these spans, or in none
   both : Pattern → Pattern → Pattern
   either : Pattern → Pattern → Pattern
   some : Pattern → Pattern
@@ -128,7 +128,6 @@ first-match bs p i (suc n) = pick (none-of (ends bs p i)) (first-match bs p (suc
 abbrev pub matches : List ℕ → Pattern → Bool
 matches bs p = not (none-of (first-match bs p 0 (suc (length bs))))
 
-
 abbrev pub next-is : ℕ → List ℕ → Bool
 next-is d [] = false
 next-is d (c ∷ cs) = eqb c d
@@ -158,9 +157,9 @@ spans zero ss first cs = none
 spans (suc n) ss first [] = none
 spans (suc n) ss first (c ∷ cs) =
     pick (eqb c 93 && pick first false true) (got ss cs)
-        (pick (next-is 45 cs && pick (next-is 93 (less-one cs)) false (pick (none-of (less-one cs)) false true))
-            (spans n (ss ++ record { low = c; high = getD (less-one cs) 0 0 } ∷ []) false (less-one (less-one cs)))
-            (spans n (ss ++ record { low = c; high = c } ∷ []) false cs))
+    (pick (next-is 45 cs && pick (next-is 93 (less-one cs)) false (pick (none-of (less-one cs)) false true))
+    (spans n (ss ++ record { low = c; high = getD (less-one cs) 0 0 } ∷ []) false (less-one (less-one cs)))
+    (spans n (ss ++ record { low = c; high = c } ∷ []) false cs))
 
 abbrev pub repeated : ℕ → Pattern → Pattern
 repeated c p = pick (eqb c 42) (some p) (pick (eqb c 43) (both p (some p)) (either p nothing))
@@ -190,7 +189,7 @@ unfoldable mutual
       (pick (eqb c 46) (got any-byte cs) (pick (eqb c 94) (got at-start cs) (pick (eqb c 36) (got at-end cs)
       (pick (eqb c 92) (pick (none-of cs) none (got (one-of (getD cs 0 0)) (less-one cs)))
       (pick (eqb c 91) (pick (next-is 94 cs) (with-got (spans n [] true (less-one cs)) (λ ss ds. got (byte ss false) ds)) (with-got (spans n [] true cs) (λ ss ds. got (byte ss true) ds)))
-          (got (one-of c) cs)))))))
+      (got (one-of c) cs)))))))
 
 unfoldable pub whole-pattern : Got ℕ Pattern → List Pattern
 whole-pattern none = []
@@ -199,7 +198,6 @@ whole-pattern (got p (c ∷ cs)) = []
 
 abbrev pub pattern-of : List ℕ → List Pattern
 pattern-of bs = pick (leb (length bs) 255) (whole-pattern (pattern (4 * length bs + 4) bs)) []
-
 
 -- bytes put in place of a match: & stands for the match, a backslash before a byte for that byte
 unfoldable pub filled : List ℕ → List ℕ → List ℕ
@@ -229,10 +227,10 @@ unfoldable pub put-from : ℕ → ℕ → List ℕ → Pattern → List ℕ → 
 put-from zero which bs p rep i k just = record { bytes = drop i bs; times = 0 }
 put-from (suc n) which bs p rep i k just =
     pick (none-of (ends bs p i)) (one-on bs i (put-from n which bs p rep (suc i) k false))
-        (pick (eqb (greatest 0 (ends bs p i)) i)
-            (pick just (one-on bs i (put-from n which bs p rep (suc i) k false))
-                (with-put which k [] rep (one-on bs i (put-from n which bs p rep (suc i) (suc k) false))))
-            (with-put which k (part bs i (greatest 0 (ends bs p i))) rep (put-from n which bs p rep (greatest 0 (ends bs p i)) (suc k) true)))
+    (pick (eqb (greatest 0 (ends bs p i)) i)
+    (pick just (one-on bs i (put-from n which bs p rep (suc i) k false))
+    (with-put which k [] rep (one-on bs i (put-from n which bs p rep (suc i) (suc k) false))))
+    (with-put which k (part bs i (greatest 0 (ends bs p i))) rep (put-from n which bs p rep (greatest 0 (ends bs p i)) (suc k) true)))
 
 abbrev pub replaced : ℕ → Pattern → List ℕ → List ℕ → Put
 replaced which p rep bs = put-from (2 * length bs + 2) which bs p rep 0 0 false

@@ -11,6 +11,7 @@ use Rattle.plain.specs.Command.{Address, Range, Deed, append, insert, change, 
 use Rattle.plain.specs.House.{Line, Stand, Plain, Turn, turn, Both, where-of, plain-range, given-lines, weight, changes, empty-stand, Work, start-work, deed-work, both-of, place-of, moved-to, lines-from, how-many, File}
 use Rattle.plain.specs.Device.{Device, Page, tape-of, read-record, longer, fastened, anew, stopped}
 use Rattle.plain.specs.Run.{Engine, World, Item, proper, Right, new-world, Steady}
+
 -- how many records a command may read and put on that looks for nothing: by the lines that it has to do with, and what it shows
 abbrev pub span : Plain → Simple → ℕ
 span w c = suc (where-of (w .now) (w .pattern) c .to) - where-of (w .now) (w .pattern) c .from
@@ -42,7 +43,7 @@ may-use w (plain c) t r =
     pick (plain-range (c .range) && not (goes-through (c .deed))) (leb r (256 + 256 * (span w c + given-lines (c .deed) + length (t .shows)))) true
 may-use w (all-lines s like p c) t r = true
 
--- a command that is known: the plain house's turn, within what may be used; or no room, only if more is then to be kept than before, and than an
+-- a command that is known: the plain house's turn, within what may be used; or no room, only if more is then to be kept than before, and than a
 -- sixteenth of a tape's records hold
 unfoldable pub Turn-may : ℕ → Plain → Command → Turn → List (List ℕ) → ℕ → ℕ → Plain → Type 0
 Turn-may records w a t ss r reply w₁ =
@@ -64,7 +65,7 @@ unfoldable pub Whole : (Command → Bool) → Engine → Type 0
 Whole known e =
     Steady e
     × ((records : ℕ) (is : List Item) → 1024 ≤ records → records ≤ 1048576 → length is ≤ 4294967296 → proper false is ≡ true →
-        Right (May known records) (λ w. w) e (new-world records) first-plain is)
+    Right (May known records) (λ w. w) e (new-world records) first-plain is)
 
 -- 1. No line's id is there twice, and the current line is no more than there are.
 unfoldable pub distinct : List ℕ → Bool

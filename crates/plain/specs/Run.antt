@@ -9,19 +9,20 @@ use lib.ListN.{length, getD, take, drop}
 use mathlib.Core.Logic.{_⊎_}
 use Rattle.plain.specs.Pattern.{pick, or, every}
 use Rattle.plain.specs.Device.{Device, Page, tape-of, read-record, longer, fastened, anew, stopped, a-page, fresh}
+
 -- what the machine is told
 pub data Event : Type 0 where
-  on : ℕ → Event                   -- power is there, memory is as at the start; how many records a tape has room for
-  said : List ℕ → Event            -- a command
-  page : List ℕ → Event            -- the record that was asked for, or nothing
-  next : Event                     -- the last act is done
+  on : ℕ → Event  -- power is there, memory is as at the start; how many records a tape has room for
+  said : List ℕ → Event  -- a command
+  page : List ℕ → Event  -- the record that was asked for, or nothing
+  next : Event  -- the last act is done
 
 -- what it does
 pub data Act : Type 0 where
-  read : ℕ → ℕ → Act               -- tape 0 or 1, a record
+  read : ℕ → ℕ → Act  -- tape 0 or 1, a record
   put-on : ℕ → List ℕ → Act
   fasten : ℕ → Act
-  begin : ℕ → Act                  -- a tape anew, without records
+  begin : ℕ → Act  -- a tape anew, without records
   shows : List ℕ → Act
   done : Act
   refused : ℕ → Act
@@ -114,8 +115,8 @@ Right {S} may after e v s (whole t ∷ is) =
 Right {S} may after e v s (stops t n cs ∷ is) =
     (s₁ : S)
     × (may s t (ran-as e n v t .showed) (ran-as e n v t .records-used) (ran-as e n v t .end) s₁
-        ⊎ ((ran-as e n v t .end ≡ 1000) × (more : List (List ℕ)) × (r : ℕ) × (reply : ℕ) × (s₂ : S)
-            × may s t (ran-as e n v t .showed ++ more) r reply s₂ × ((s₁ ≡ s) ⊎ (s₁ ≡ s₂))))
+    ⊎ ((ran-as e n v t .end ≡ 1000) × (more : List (List ℕ)) × (r : ℕ) × (reply : ℕ) × (s₂ : S)
+    × may s t (ran-as e n v t .showed ++ more) r reply s₂ × ((s₁ ≡ s) ⊎ (s₁ ≡ s₂))))
     × Right may after e (dark (ran-as e n v t .here) cs) (after s₁) is
 
 abbrev pub new-world : ℕ → World

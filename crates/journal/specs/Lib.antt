@@ -1,0 +1,5 @@
+pub mod Machine
+pub mod Log
+pub mod Small
+pub mod Room
+pub mod Pages

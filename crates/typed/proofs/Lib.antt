@@ -1,0 +1,10 @@
+pub mod Fronts
+pub mod Digits
+pub mod Ends
+pub mod Bases
+pub mod Steps
+pub mod Shorter
+pub mod Ranges
+pub mod Names
+pub mod Letters
+pub mod Wholes
