@@ -8,3 +8,4 @@ pub mod Ranges
 pub mod Names
 pub mod Letters
 pub mod Wholes
+pub mod Texts

@@ -6,6 +6,8 @@ use lib.Dec.{ltb}
 use denote.Ref.{RefT}
 use Rattle.std.specs.declared.option.Option.{Option}
 use Rattle.std.specs.declared.option.Option.the-variants.{None, Some}
+use Rattle.typed.specs.declared.given.Lines.{Lines}
+use Rattle.typed.specs.Meaning.{lines-in}
 use Rattle.plain.specs.Pattern.{pick, or, Got, none, got, with-got, next-is, less-one}
 use Rattle.plain.specs.Command as command
 use Rattle.plain.specs.Command.{number-part, after-digits, digits-long, amount, up-to, which-of}
@@ -24,6 +26,11 @@ whole f (Some a) = got (f a) []
 abbrev pub listed : {A B : Type 0} → (A → B) → Option A → List B
 listed f None = []
 listed f (Some a) = f a ∷ []
+
+-- none, or the first line and those behind it
+abbrev pub parted : Option (RefT (List ℕ) × Lines) → List (List ℕ)
+parted None = []
+parted (Some p) = p .0 .now ∷ lines-in (p .1)
 
 -- the number that digits at the front write, 0 if there are none; more than nine are refused
 abbrev pub a-number : List ℕ → Got ℕ ℕ
