@@ -15,7 +15,6 @@ use Rattle.plain.specs.House.{Line, Stand, Plain, Turn, Both, both-of, Work, ho
 use Rattle.plain.proofs.Basics.{In, every-in, every-by, length-each}
 use Rattle.plain.proofs.Goods.{at-insert, at-gone, at-change, Real, real-from}
 use Rattle.plain.proofs.Fair.{length-lines}
-use Rattle.commands.specs.Splice.{brought}
 use Rattle.commands.specs.Kept.{Kept, kept, fit-line, fit-lines}
 use Rattle.commands.specs.Resolve.{Checked, good, refused, then, check, Bounds, bounds, there}
 use Rattle.commands.specs.Plan as plan

@@ -15,8 +15,8 @@ use Rattle.plain.specs.House.{Line, Stand, Plain, Turn, File, Both, both-of, bo
 use Rattle.plain.proofs.Basics.{In, every-in, every-by, length-each}
 use Rattle.plain.proofs.Goods.{Real, real-from}
 use Rattle.plain.proofs.Fair.{length-lines}
-use Rattle.commands.specs.Splice.{brought}
-use Rattle.commands.specs.Kept.{Kept, kept, fit-line, fit-lines, fit-name, fit-file, other-names, lines-size, pushed, stand-size, directory, offset}
+use Rattle.journal.specs.Small.{pushed}
+use Rattle.commands.specs.Kept.{Kept, kept, fit-line, fit-lines, fit-name, fit-file, other-names, lines-size, stand-size, directory, offset}
 use Rattle.commands.specs.Resolve.{Checked, good, refused, then, check, Bounds, bounds, there}
 use Rattle.commands.specs.Plan as plan
 use Rattle.commands.specs.Plan.{Plan, Slot, slot-of, look-up, table, decide-deed, writable}
@@ -102,9 +102,9 @@ module _ (w : Plain) (k : Kept) (h : Held w k) where
   can-same b = let n = sym (count-same w k h) in λ i. or (there-same w k h b (w .pattern) i) (eqb (n i) 0 && eqb (b .last) 0)
 
   -- the lines written, as copies of entries
-  pub copied : (b : Bounds) → Written b →
+  pub copied-lines : (b : Bounds) → Written b →
       take ((offset (k .files) + b .last) - (offset (k .files) + (b .first - 1))) (drop (offset (k .files) + (b .first - 1)) (directory k)) ≡ bytes-of (lines-from (w .now) (b .first) (b .last))
-  copied b r = again-text k (b .first - 1) (b .last) ∙ sym (r .bytes)
+  copied-lines b r = again-text k (b .first - 1) (b .last) ∙ sym (r .bytes)
 
   pub copied-fit : (b : Bounds) → Written b → fit-lines (bytes-of (lines-from (w .now) (b .first) (b .last))) ≡ true
   copied-fit b r = ap fit-lines (r .bytes) ∙ every-take fit-line (b .last - (b .first - 1)) (drop (b .first - 1) (k .text)) (every-drop fit-line (b .first - 1) (k .text) (h .sound .lines-fit))
@@ -156,7 +156,7 @@ module _ (w : Plain) (k : Kept) (h : Held w k) where
           record { same = record {
             reply = refl;
             shows = ap (λ z. eight z ∷ []) (sym (r .long));
-            next = subst (λ z. Held w₁ (kept (k .text) (k .at) (with-file-at (f .place) (file n z) (k .files)) (k .ring))) (sym (copied b r))
+            next = subst (λ z. Held w₁ (kept (k .text) (k .at) (with-file-at (f .place) (file n z) (k .files)) (k .ring))) (sym (copied-lines b r))
               (quiet-held w k h w₁ (k .at) fs (omega (arith, h .sound .current, count-same w k h)) (p .sound L g (copied-fit b r))
                 (record { lines = refl; current = sym (h .at); before = refl; undone = refl; files = sym (p .puts L); next = refl })) } }))
         (λ t. record { same = no-alike w k h 4 })

@@ -13,7 +13,7 @@ use Rattle.plain.specs.Pattern.{pick, or, every, any, each, those, added-up, no
 use Rattle.plain.specs.House.{File, put-file}
 use Rattle.plain.proofs.Basics.{In, in-left, in-right, in-cases, any-in, any-from, any-none, every-in, every-by, every-append, added-append}
 use Rattle.commands.specs.Kept.{lines-size, offset, fit-name, fit-lines, fit-file, other-names}
-use Rattle.commands.specs.Plan.{Entry, entry, entry-of, table, Slot, slot-of, look-up}
+use Rattle.commands.specs.Plan.{entry-of, table, Slot, slot-of, look-up}
 use Rattle.commands.specs.Turn.{with-file-at}
 use Rattle.commands.proofs.Lists.{every-both, every-parts}
 

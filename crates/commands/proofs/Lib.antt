@@ -8,3 +8,7 @@ pub mod Alike
 pub mod Filed
 
 pub mod Turned
+pub mod Planned
+pub mod Granted
+pub mod Readings
+pub mod Typed

@@ -11,7 +11,8 @@ use Rattle.std.proofs.shelf.Lists.{length-append, length-take, length-drop, len
 use Rattle.std.proofs.shelf.Tests.{lt-ltb, le-ltb, cases-lt}
 use Rattle.plain.specs.Pattern.{pick, added-up}
 use Rattle.plain.specs.House.{Stand, stand-weight, stands-weight}
-use Rattle.commands.specs.Kept.{sum, pushed}
+use Rattle.commands.specs.Kept.{sum}
+use Rattle.journal.specs.Small.{pushed}
 use Rattle.commands.specs.Held.{stand-weights}
 use Rattle.commands.proofs.Lists.{added-reverse, take-less, reverse-take}
 

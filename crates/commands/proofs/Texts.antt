@@ -16,7 +16,8 @@ use Rattle.plain.specs.Weight.{extra-break, Put-weight}
 use Rattle.plain.proofs.Basics.{In, in-each, in-each-from, every-in, every-by, each-append, length-each, added-same}
 use Rattle.plain.proofs.Goods.{Good, put-new, length-new, length-put}
 use Rattle.plain.proofs.Weights.{put-weight}
-use Rattle.commands.specs.Kept.{Kept, kept, kept-weight, line-size, lines-size, file-size, sum, pushed, moved-on, stand-size, fit-line, fit-lines, fit-file, other-names, Sound}
+use Rattle.commands.specs.Kept.{Kept, kept, kept-weight, line-size, lines-size, file-size, sum, moved-on, stand-size, fit-line, fit-lines, fit-file, other-names, Sound}
+use Rattle.journal.specs.Small.{pushed}
 use Rattle.commands.specs.Turn.{with-lines}
 use Rattle.commands.specs.Held.{stand-weights, bytes-of, Held, Weighs-alike}
 use Rattle.commands.proofs.Lists.{each-take, each-drop, added-each, every-take, every-drop, every-both}
@@ -101,12 +102,12 @@ module _ (w : Plain) (k : Kept) (h : Held w k) where
   pub count-same : length (k .text) ≡ how-many (w .now)
   count-same = ap length (h .text) ∙ length-each (λ l. l .bytes) (w .now .lines)
 
-  pub good-now : Good (w .next) (w .now)
+  pub good-now : Good 1 (w .next) (w .now)
   good-now = record {
       apart = h .apart;
       below = λ i u. (let r = in-each-from (λ l. l .id) i (w .now .lines) u in
         let p = and-parts (leb 1 (r .0 .id)) (ltb (r .0 .id) (w .next)) (every-in (λ l. leb 1 (l .id) && ltb (l .id) (w .next)) (r .0) (w .now .lines) (h .old) (r .1)) in
-        omega (arith, ltb-true (r .0 .id) (w .next) (p .1), r .2));
+        omega (arith, leb-true 1 (r .0 .id) (p .0), ltb-true (r .0 .id) (w .next) (p .1), r .2));
       within = omega (arith, h .at, h .sound .current, count-same) }
 
   stand-is : (s₁ : Stand) (a b : ℕ) (ls : List (List ℕ)) → a ≤ b → b ≤ how-many (w .now) → s₁ .lines ≡ put-lines (w .now) a b (new-lines (w .next) ls) →
@@ -126,7 +127,7 @@ module _ (w : Plain) (k : Kept) (h : Held w k) where
       let n : ℕ = stand-size (length (k .text)) a b (lines-size (take (b - a) (drop a (k .text)))) (length ls) in
       let L = w .now .lines in
       let N = new-lines (w .next) ls in
-      let g = put-new (w .now) (w .next) a b at ls good-now ab bn al in
+      let g = put-new (w .now) (w .next) a b at ls good-now (h .one) ab bn al in
       let cs = count-same in
       let one = h .one in
       record {

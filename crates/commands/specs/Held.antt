@@ -8,13 +8,14 @@ use lib.ListN.{length}
 use Rattle.plain.specs.Pattern.{pick, every, each, all-bytes}
 use Rattle.plain.specs.Command.{Deed, append, insert, change, delete, join, move, copy, mark, print, number, where-is, swap, go-to, undo, redo, save, edit, load, files, bad, Simple, Command, plain, all-lines, reads}
 use Rattle.plain.specs.House.{Line, Stand, Plain, Turn, turn, core, how-many, stand-weight, weight, plain-range, given-lines}
-use Rattle.plain.specs.Promise.{distinct, ids, goes-through, may-use, Turn-may, first-plain}
-use Rattle.commands.specs.Splice.{Splice, apply}
+use Rattle.plain.specs.Promise.{distinct, ids, goes-through, may-use, Turn-may, May, first-plain}
+use Rattle.journal.specs.Log.{Source, no-entries, new-entries, copied, Splice, apply}
 use Rattle.commands.specs.Kept.{Kept, kept-weight, directory, Sound, nothing-kept, fit-name, lines-size}
 use Rattle.commands.specs.Resolve.{Checked, good, refused, Bounds, command-bounds}
 use Rattle.commands.specs.Plan.{Plan}
-use Rattle.commands.specs.Turn.{Kept-turn, kept-turn, room-turn, decision, walked, too-long, new-lines-of, lines-that-come, kept-after, lines-given, name-given}
-use Rattle.commands.specs.Smalls.{Smalls, smalls-of, updated, news-by, smalls-weight}
+use Rattle.commands.specs.Turn.{Kept-turn, kept-turn, kept-no, room-turn, decision, walked, too-long, new-lines-of, lines-that-come, kept-after, lines-given, name-given}
+use Rattle.commands.specs.Smalls.{smalls-of, news-by, smalls-weight}
+use Rattle.journal.specs.Small.{Small, updated}
 
 -- the weights of what was before, each beside the next newer one, the newest first
 unfoldable pub stand-weights : Stand → List Stand → List ℕ
@@ -63,15 +64,22 @@ unfoldable pub Begins-alike : Type 0
 Begins-alike = Held first-plain nothing-kept
 
 -- THE SPLICE: a plan's splice is what becomes of the directory, and its small numbers are those of what is kept then
+abbrev pub Inside : ℕ → Source → Type 0
+Inside n no-entries = zero ≡ zero
+Inside n new-entries = zero ≡ zero
+Inside n (copied x y) = (x ≤ y) × (y ≤ n)
+
 pub record As-planned (k : Kept) (p : Plan) (d : Deed) : Type 0 where
   pub entries : directory (kept-after k p d) ≡ apply (p .splice) (directory k) (new-lines-of k p (lines-given d))
   pub numbers : smalls-of (kept-after k p d) ≡ updated (news-by (p .update) (smalls-of k) p (lines-size (walked k p)) (lines-size (lines-that-come k p (lines-given d))) (name-given d)) (smalls-of k)
   pub coming : length (lines-that-come k p (lines-given d)) ≡ p .came
   pub below : p .after ≤ p .upto
   pub there : p .upto ≤ length (k .text)
+  pub goes : p .splice .from + p .splice .gone ≤ length (directory k)
+  pub comes : Inside (length (directory k)) (p .splice .source)
 
 unfoldable pub Plans-stand : Type 0
-Plans-stand = (k : Kept) (c : Simple) (p : Plan) → Sound k → decision k c ≡ good p → As-planned k p (c .deed)
+Plans-stand = (k : Kept) (c : Simple) (p : Plan) → decision k c ≡ good p → As-planned k p (c .deed)
 
 unfoldable pub Smalls-weigh : Type 0
 Smalls-weigh = (k : Kept) → kept-weight k ≡ smalls-weight (smalls-of k)
@@ -99,3 +107,23 @@ unfoldable pub Turns-allowed : Type 0
 Turns-allowed =
     (records : ℕ) (w : Plain) (k : Kept) (c : Command) (r : ℕ) → Held w k → core c ≡ true → well-read c ≡ true → kept-weight k ≤ 32 * records →
     may-spend k c (kept-turn k c .shows) r ≡ true → Allowed records w c (room-turn records k c) r
+
+-- WHAT IS TYPED: refused with 1 if it can't be read, with 2 if it isn't known
+abbrev pub typed-turn : ℕ → Kept → List Command → Kept-turn
+typed-turn records k [] = kept-no 1 k
+typed-turn records k (c ∷ cs) = room-turn records k c
+
+abbrev pub may-spend-on : Kept → List Command → ℕ → Bool
+may-spend-on k [] r = true
+may-spend-on k (c ∷ cs) r = may-spend k c (kept-turn k c .shows) r
+
+pub record May-be (records : ℕ) (w : Plain) (bs : List ℕ) (u : Kept-turn) (r : ℕ) : Type 0 where
+  pub next : Plain
+  pub may : May core records w bs (u .shows) r (u .reply) next
+  pub held : Held next (u .next)
+  pub room : kept-weight (u .next) ≤ 32 * records
+
+unfoldable pub Typed-allowed : Type 0
+Typed-allowed =
+    (records : ℕ) (w : Plain) (k : Kept) (bs : List ℕ) (r : ℕ) → Held w k → kept-weight k ≤ 32 * records → may-spend-on k (reads bs) r ≡ true →
+    May-be records w bs (typed-turn records k (reads bs)) r

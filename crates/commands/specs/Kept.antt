@@ -37,10 +37,6 @@ sum ns = added-up (λ n. n) ns
 abbrev pub kept-weight : Kept → ℕ
 kept-weight k = lines-size (k .text) + sum (k .ring) + added-up file-size (k .files)
 
--- a 65th drops the oldest
-abbrev pub pushed : List ℕ → ℕ → List ℕ
-pushed r n = pick (ltb (length r) 64) (r ++ n ∷ []) (drop 1 r ++ n ∷ [])
-
 -- 1 if a line stands after the bth, and another line before it than there was
 abbrev pub moved-on : ℕ → ℕ → ℕ → ℕ → ℕ
 moved-on count a b came = pick (ltb b count && or (ltb a b) (ltb 0 came)) 1 0

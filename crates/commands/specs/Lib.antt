@@ -1,4 +1,3 @@
-pub mod Splice
 pub mod Kept
 pub mod Resolve
 pub mod Plan

@@ -8,19 +8,12 @@ use lib.ListN.{length}
 use Rattle.plain.specs.Pattern.{pick, or, every, each, none-of, same}
 use Rattle.plain.specs.Command.{Address, Range, Deed, append, insert, change, delete, join, move, copy, mark, print, number, where-is, swap, go-to, undo, redo, save, edit, load, files, bad, Simple, Command, plain, all-lines}
 use Rattle.plain.specs.House.{File, smaller, short-all, plain-range, core-deed}
-use Rattle.commands.specs.Splice.{Source, nothing, put-on, again, Splice, splice, none}
+use Rattle.journal.specs.Log.{Source, no-entries, new-entries, copied, Splice, splice, no-splice}
 use Rattle.commands.specs.Kept.{lines-size}
 use Rattle.commands.specs.Resolve.{Checked, good, refused, then, check, Bounds, command-bounds, there}
+use Rattle.journal.specs.Small.{Entry, entry}
 
 -- THE FILE TABLE: of each file its name, how many lines it has, and what these weigh
-pub record Entry : Type 0 where
-  pub name : List ℕ
-  pub lines : ℕ
-  pub size : ℕ
-
-abbrev pub entry : List ℕ → ℕ → ℕ → Entry
-entry n l s = record { name = n; lines = l; size = s }
-
 abbrev pub entry-of : File → Entry
 entry-of f = entry (f .name) (length (f .lines)) (lines-size (f .lines))
 
@@ -98,37 +91,37 @@ text-plan s w a b from came at rows =
 
 abbrev pub show-plan : Sizes → Walk → ℕ → ℕ → Plan
 show-plan s w a b =
-    record { walk = w; after = a; upto = b; update = current-only; splice = none; came = 0; count = s .count; current = b; rows = no-row }
+    record { walk = w; after = a; upto = b; update = current-only; splice = no-splice; came = 0; count = s .count; current = b; rows = no-row }
 
 abbrev pub say-plan : Sizes → Rows → Plan
 say-plan s rows =
-    record { walk = skip; after = 0; upto = 0; update = same-as-before; splice = none; came = 0; count = s .count; current = s .at; rows = rows }
+    record { walk = skip; after = 0; upto = 0; update = same-as-before; splice = no-splice; came = 0; count = s .count; current = s .at; rows = rows }
 
 abbrev pub file-plan : Sizes → Slot → ℕ → ℕ → Plan
 file-plan s f a b =
-    record { walk = measure; after = a; upto = b; update = the-file (f .place); splice = splice (f .before) (f .lines) (again (s .offset + a) (s .offset + b)); came = b - a; count = s .count; current = s .at; rows = a-number (b - a) }
+    record { walk = measure; after = a; upto = b; update = the-file (f .place); splice = splice (f .before) (f .lines) (copied (s .offset + a) (s .offset + b)); came = b - a; count = s .count; current = s .at; rows = a-number (b - a) }
 
 -- where one is after lines from a on went, of which so many stay: at the next, or the last there is
 abbrev pub at-gone : ℕ → Bounds → ℕ
 at-gone count b = smaller (b .first) (count - (suc (b .last) - b .first))
 
 abbrev pub append-plan : Sizes → Given → Bounds → Plan
-append-plan s g b = text-plan s skip (b .last) (b .last) put-on (g .many) (b .last + g .many) no-row
+append-plan s g b = text-plan s skip (b .last) (b .last) new-entries (g .many) (b .last + g .many) no-row
 
 abbrev pub insert-plan : Sizes → Given → Bounds → Plan
-insert-plan s g b = text-plan s skip (b .last - 1) (b .last - 1) put-on (g .many) (pick (eqb (g .many) 0) (b .last) (b .last - 1 + g .many)) no-row
+insert-plan s g b = text-plan s skip (b .last - 1) (b .last - 1) new-entries (g .many) (pick (eqb (g .many) 0) (b .last) (b .last - 1 + g .many)) no-row
 
 abbrev pub change-plan : Sizes → Given → Bounds → Plan
-change-plan s g b = text-plan s measure (b .first - 1) (b .last) put-on (g .many) (pick (eqb (g .many) 0) (at-gone (s .count) b) (b .first - 1 + g .many)) no-row
+change-plan s g b = text-plan s measure (b .first - 1) (b .last) new-entries (g .many) (pick (eqb (g .many) 0) (at-gone (s .count) b) (b .first - 1 + g .many)) no-row
 
 abbrev pub delete-plan : Sizes → Bounds → Plan
-delete-plan s b = text-plan s measure (b .first - 1) (b .last) nothing 0 (at-gone (s .count) b) no-row
+delete-plan s b = text-plan s measure (b .first - 1) (b .last) no-entries 0 (at-gone (s .count) b) no-row
 
 abbrev pub join-plan : Sizes → Bounds → Plan
-join-plan s b = text-plan s glue (b .first - 1) (b .last) put-on 1 (b .first) no-row
+join-plan s b = text-plan s glue (b .first - 1) (b .last) new-entries 1 (b .first) no-row
 
 abbrev pub edit-plan : Sizes → Slot → Plan
-edit-plan s f = text-plan s skip 0 (s .count) (again (f .before) (f .before + f .lines)) (f .lines) (f .lines) (a-number (f .lines))
+edit-plan s f = text-plan s skip 0 (s .count) (copied (f .before) (f .before + f .lines)) (f .lines) (f .lines) (a-number (f .lines))
 
 -- 1 to the last, even if there is none
 abbrev pub writable : ℕ → Bounds → Bool

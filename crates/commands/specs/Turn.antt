@@ -7,10 +7,11 @@ use lib.ListN.{length, take, drop}
 use Rattle.plain.specs.Pattern.{pick, each, flat, eight}
 use Rattle.plain.specs.Command.{Deed, append, insert, change, delete, join, move, copy, mark, print, number, where-is, swap, go-to, undo, redo, save, edit, load, files, bad, Simple, Command, plain, all-lines}
 use Rattle.plain.specs.House.{File, file-row, short-all}
-use Rattle.commands.specs.Splice.{Splice, brought, apply}
-use Rattle.commands.specs.Kept.{Kept, kept, kept-weight, lines-size, pushed, stand-size, directory, offset}
+use Rattle.journal.specs.Log.{Splice, incoming, apply}
+use Rattle.commands.specs.Kept.{Kept, kept, kept-weight, lines-size, stand-size, directory, offset}
 use Rattle.commands.specs.Resolve.{Checked, good, refused}
 use Rattle.commands.specs.Plan.{Plan, Walk, skip, show, show-numbered, measure, glue, Update, same-as-before, current-only, the-text, the-file, Rows, no-row, a-number, all-files, Sizes, sizes, Slot, look-up, table, Given, given-size, decide}
+use Rattle.journal.specs.Small.{pushed}
 
 pub record Kept-turn : Type 0 where
   pub reply : ℕ
@@ -120,7 +121,7 @@ abbrev pub new-lines-of : Kept → Plan → List (List ℕ) → List (List ℕ)
 new-lines-of k p gs = put-lines (p .walk) (walked k p) gs
 
 abbrev pub lines-that-come : Kept → Plan → List (List ℕ) → List (List ℕ)
-lines-that-come k p gs = brought (p .splice .source) (directory k) (new-lines-of k p gs)
+lines-that-come k p gs = incoming (p .splice .source) (directory k) (new-lines-of k p gs)
 
 abbrev pub with-lines : ℕ → ℕ → List (List ℕ) → List (List ℕ) → List (List ℕ)
 with-lines a b ls text = take a text ++ (ls ++ drop b text)

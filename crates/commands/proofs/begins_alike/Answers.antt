@@ -1,0 +1,5 @@
+use Rattle.commands.proofs.Granted.{begins-alike}
+use Rattle.commands.proofs.begins_alike.Needs as need
+
+pub returns : need.returns
+returns c = begins-alike

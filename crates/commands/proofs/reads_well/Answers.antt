@@ -1,0 +1,5 @@
+use Rattle.commands.proofs.Readings.{reads-well}
+use Rattle.commands.proofs.reads_well.Needs as need
+
+pub returns : need.returns
+returns c = reads-well

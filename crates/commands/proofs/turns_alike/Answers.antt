@@ -1,0 +1,5 @@
+use Rattle.commands.proofs.Turned.{turns-alike}
+use Rattle.commands.proofs.turns_alike.Needs as need
+
+pub returns : need.returns
+returns c = turns-alike

@@ -1,0 +1,4 @@
+pub mod State
+pub mod Fits
+pub mod Packing
+pub mod Machine
