@@ -108,3 +108,8 @@ pub record Slot-fits (f : code-slot.Slot) : Type 0 where
 pub record Span-fits (count : ℕ) (s : code-span.Span) : Type 0 where
   pub below : s .after ≤ s .upto
   pub there : s .upto ≤ count
+
+pub record Bounds-there (count : ℕ) (b : code-bounds.Bounds) : Type 0 where
+  pub one : 1 ≤ b .first
+  pub order : b .first ≤ b .last
+  pub within : b .last ≤ count

@@ -10,7 +10,7 @@ ghost use Rattle.typed.specs.Meaning.{lines-in, deed-of, simple-of};
 ghost use Rattle.commands.specs.Resolve.{there};
 ghost use Rattle.commands.specs.Plan.{at-gone, text-plan, show-plan, say-plan, file-plan, edit-plan, writable, decide-append, decide-insert, decide-change, decide-delete, decide-join, decide-show, decide-where, decide-go, decide-save, decide-edit, decide};
 ghost use Rattle.commands.specs.Turn.{given-of};
-ghost use Rattle.commands.specs.Code.{checked-by, when, bounds-as, walk-as, rows-as, source-as, sizes-as, slot-as, given-in, plan-as, Sizes-fit, Slot-fits, Span-fits};
+ghost use Rattle.commands.specs.Code.{checked-by, when, bounds-as, walk-as, rows-as, source-as, sizes-as, slot-as, given-in, plan-as, Sizes-fit, Slot-fits, Span-fits, Bounds-there};
 use crate::bounds::Bounds;
 use crate::bounds::command_bounds;
 use crate::bounds::known;
@@ -242,4 +242,178 @@ fn real_lines(count: u64, bounds: Bounds) -> Option<Span>
     } else {
         None
     }
+}
+
+/// Where one is after lines went: at the next, or the last that is left.
+fn after_gone(count: u64, bounds: Bounds) -> u64
+    requires { ⌜ Bounds-there count bounds ⌝ }
+    ensures { λ r. ⌜ r ≡ at-gone count (bounds-as bounds) ⌝ }
+{
+    let left = count - (bounds.last - bounds.first + 1);
+    if bounds.first < left { bounds.first } else { left }
+}
+
+fn append(sizes: Sizes, lines: Lines<'_>, bounds: Bounds) -> Result<Plan, Refusal>
+    requires { ⌜ Sizes-fit sizes ⌝ }
+    requires { ⌜ length (lines-in lines) < 4294967296 ⌝ }
+    ensures { λ r. ⌜ checked-by plan-as r ≡ decide-append (sizes-as sizes) (given-in (lines .entry)) (bounds-as bounds) ⌝ }
+{
+    let Some(many) = short_lines(lines) else {
+        return Err(Refusal::TooLarge);
+    };
+    let Some(line) = line_or_front(sizes.count, bounds.last) else {
+        return Err(Refusal::NoLine);
+    };
+    let span = Span {
+        after: line,
+        upto: line,
+    };
+    let coming = Coming {
+        source: Source::Given,
+        many,
+    };
+    Ok(replace(
+        sizes,
+        Walk::Skip,
+        span,
+        coming,
+        line + many,
+        Rows::Nothing,
+    ))
+}
+
+/// Without lines one stays where one is.
+fn insert(sizes: Sizes, lines: Lines<'_>, bounds: Bounds) -> Result<Plan, Refusal>
+    requires { ⌜ Sizes-fit sizes ⌝ }
+    requires { ⌜ length (lines-in lines) < 4294967296 ⌝ }
+    ensures { λ r. ⌜ checked-by plan-as r ≡ decide-insert (sizes-as sizes) (given-in (lines .entry)) (bounds-as bounds) ⌝ }
+{
+    let Some(many) = short_lines(lines) else {
+        return Err(Refusal::TooLarge);
+    };
+    let Some(line) = line_or_front(sizes.count, bounds.last) else {
+        return Err(Refusal::NoLine);
+    };
+    let before = if line == 0 { 0 } else { line - 1 };
+    let span = Span {
+        after: before,
+        upto: before,
+    };
+    let coming = Coming {
+        source: Source::Given,
+        many,
+    };
+    let current = if many == 0 { line } else { before + many };
+    Ok(replace(
+        sizes,
+        Walk::Skip,
+        span,
+        coming,
+        current,
+        Rows::Nothing,
+    ))
+}
+
+fn change(sizes: Sizes, lines: Lines<'_>, bounds: Bounds) -> Result<Plan, Refusal>
+    requires { ⌜ Sizes-fit sizes ⌝ }
+    requires { ⌜ length (lines-in lines) < 4294967296 ⌝ }
+    ensures { λ r. ⌜ checked-by plan-as r ≡ decide-change (sizes-as sizes) (given-in (lines .entry)) (bounds-as bounds) ⌝ }
+{
+    let Some(many) = short_lines(lines) else {
+        return Err(Refusal::TooLarge);
+    };
+    let Some(span) = real_lines(sizes.count, bounds) else {
+        return Err(Refusal::NoLine);
+    };
+    let coming = Coming {
+        source: Source::Given,
+        many,
+    };
+    let current = if many == 0 {
+        after_gone(sizes.count, bounds)
+    } else {
+        span.after + many
+    };
+    Ok(replace(
+        sizes,
+        Walk::Measure,
+        span,
+        coming,
+        current,
+        Rows::Nothing,
+    ))
+}
+
+fn delete(sizes: Sizes, bounds: Bounds) -> Result<Plan, Refusal>
+    requires { ⌜ Sizes-fit sizes ⌝ }
+    ensures { λ r. ⌜ checked-by plan-as r ≡ decide-delete (sizes-as sizes) (bounds-as bounds) ⌝ }
+{
+    let Some(span) = real_lines(sizes.count, bounds) else {
+        return Err(Refusal::NoLine);
+    };
+    let coming = Coming {
+        source: Source::Nothing,
+        many: 0,
+    };
+    let current = after_gone(sizes.count, bounds);
+    Ok(replace(
+        sizes,
+        Walk::Measure,
+        span,
+        coming,
+        current,
+        Rows::Nothing,
+    ))
+}
+
+fn join(sizes: Sizes, bounds: Bounds) -> Result<Plan, Refusal>
+    requires { ⌜ Sizes-fit sizes ⌝ }
+    ensures { λ r. ⌜ checked-by plan-as r ≡ decide-join (sizes-as sizes) (bounds-as bounds) ⌝ }
+{
+    let Some(span) = real_lines(sizes.count, bounds) else {
+        return Err(Refusal::NoLine);
+    };
+    let coming = Coming {
+        source: Source::Given,
+        many: 1,
+    };
+    Ok(replace(
+        sizes,
+        Walk::Join,
+        span,
+        coming,
+        bounds.first,
+        Rows::Nothing,
+    ))
+}
+
+fn print(sizes: Sizes, walk: Walk, bounds: Bounds) -> Result<Plan, Refusal>
+    ensures { λ r. ⌜ checked-by plan-as r ≡ decide-show (sizes-as sizes) (walk-as walk) (bounds-as bounds) ⌝ }
+{
+    let Some(span) = real_lines(sizes.count, bounds) else {
+        return Err(Refusal::NoLine);
+    };
+    Ok(show(sizes, walk, span))
+}
+
+fn line_number(sizes: Sizes, bounds: Bounds) -> Result<Plan, Refusal>
+    ensures { λ r. ⌜ checked-by plan-as r ≡ decide-where (sizes-as sizes) (bounds-as bounds) ⌝ }
+{
+    let Some(line) = line_or_front(sizes.count, bounds.last) else {
+        return Err(Refusal::NoLine);
+    };
+    Ok(say(sizes, Rows::Number(line)))
+}
+
+fn go_to(sizes: Sizes, bounds: Bounds) -> Result<Plan, Refusal>
+    ensures { λ r. ⌜ checked-by plan-as r ≡ decide-go (sizes-as sizes) (bounds-as bounds) ⌝ }
+{
+    let line = Bounds {
+        first: bounds.last,
+        last: bounds.last,
+    };
+    let Some(span) = real_lines(sizes.count, line) else {
+        return Err(Refusal::NoLine);
+    };
+    Ok(show(sizes, Walk::Show, span))
 }
