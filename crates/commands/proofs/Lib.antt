@@ -13,3 +13,4 @@ pub mod Granted
 pub mod Readings
 pub mod Typed
 pub mod Handed
+pub mod Decided

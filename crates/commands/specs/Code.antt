@@ -2,7 +2,7 @@
 use mathlib.Core.Path.{_≡_}
 use mathlib.Core.Bool.{Bool, true, false}
 use mathlib.Core.List.{List, []}
-use Prim.Native.Nat.{ℕ, _<_, _≤_}
+use Prim.Native.Nat.{ℕ, suc, _<_, _≤_}
 use lib.ListN.{length}
 use Rattle.std.specs.declared.option.Option.{Option}
 use Rattle.std.specs.declared.option.Option.the-variants.{None, Some}
@@ -113,3 +113,8 @@ pub record Bounds-there (count : ℕ) (b : code-bounds.Bounds) : Type 0 where
   pub one : 1 ≤ b .first
   pub order : b .first ≤ b .last
   pub within : b .last ≤ count
+
+-- of a range that was found: the first is at most one more than the last
+abbrev pub Range-ordered : Result code-bounds.Bounds Refusal → Type 0
+Range-ordered (Ok b) = b .first ≤ suc (b .last)
+Range-ordered (Err e) = Unit {0}

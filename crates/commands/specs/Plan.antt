@@ -185,3 +185,26 @@ known c = plain-range (c .range) && core-deed (c .deed)
 
 unfoldable pub decide : Sizes → Slot → Given → Simple → Checked Plan
 decide s f g c = check (known c) 2 (decide-deed s f g (command-bounds (s .count) (s .at) c) (c .deed))
+
+-- of the deeds that take a range: what is decided once the range is found
+unfoldable pub decide-lines : Sizes → Given → Bounds → Deed → Checked Plan
+decide-lines s g b (append ls) = decide-append s g b
+decide-lines s g b (insert ls) = decide-insert s g b
+decide-lines s g b (change ls) = decide-change s g b
+decide-lines s g b delete = decide-delete s b
+decide-lines s g b join = decide-join s b
+decide-lines s g b (move a) = refused 2
+decide-lines s g b (copy a) = refused 2
+decide-lines s g b (mark c) = refused 2
+decide-lines s g b print = decide-show s show b
+decide-lines s g b number = decide-show s show-numbered b
+decide-lines s g b where-is = decide-where s b
+decide-lines s g b (swap p q k) = refused 2
+decide-lines s g b go-to = decide-go s b
+decide-lines s g b undo = refused 2
+decide-lines s g b redo = refused 2
+decide-lines s g b (save n) = refused 2
+decide-lines s g b (edit n) = refused 2
+decide-lines s g b (load n) = refused 2
+decide-lines s g b files = refused 2
+decide-lines s g b bad = refused 2

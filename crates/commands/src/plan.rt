@@ -8,9 +8,9 @@ ghost use Rattle.plain.specs.Pattern.{or};
 ghost use Rattle.plain.specs.House.{short-all};
 ghost use Rattle.typed.specs.Meaning.{lines-in, deed-of, simple-of};
 ghost use Rattle.commands.specs.Resolve.{there};
-ghost use Rattle.commands.specs.Plan.{at-gone, text-plan, show-plan, say-plan, file-plan, edit-plan, writable, decide-append, decide-insert, decide-change, decide-delete, decide-join, decide-show, decide-where, decide-go, decide-save, decide-edit, decide};
-ghost use Rattle.commands.specs.Turn.{given-of};
-ghost use Rattle.commands.specs.Code.{checked-by, when, bounds-as, walk-as, rows-as, source-as, sizes-as, slot-as, given-in, plan-as, Sizes-fit, Slot-fits, Span-fits, Bounds-there};
+ghost use Rattle.commands.specs.Plan.{at-gone, text-plan, show-plan, say-plan, file-plan, edit-plan, writable, decide-append, decide-insert, decide-change, decide-delete, decide-join, decide-show, decide-where, decide-go, decide-save, decide-edit, decide-lines, decide};
+ghost use Rattle.commands.specs.Turn.{lines-given, given-of};
+ghost use Rattle.commands.specs.Code.{checked-by, when, bounds-as, walk-as, rows-as, source-as, sizes-as, slot-as, given-in, plan-as, Sizes-fit, Slot-fits, Span-fits, Bounds-there, Range-ordered};
 use crate::bounds::Bounds;
 use crate::bounds::command_bounds;
 use crate::bounds::known;
@@ -416,4 +416,111 @@ fn go_to(sizes: Sizes, bounds: Bounds) -> Result<Plan, Refusal>
         return Err(Refusal::NoLine);
     };
     Ok(show(sizes, Walk::Show, span))
+}
+
+/// The place of a file, if it is there, or if there aren't too many.
+fn file_place(slot: Slot) -> Option<Slot>
+    ensures { λ r. ⌜ r ≡ when (or (slot .found) (ltb (slot .place) 64)) slot ⌝ }
+{
+    if slot.found || slot.place < FILES {
+        Some(slot)
+    } else {
+        None
+    }
+}
+
+/// The lines, if they can be written: they are there, or the text is empty.
+fn writable_lines(count: u64, bounds: Bounds) -> Option<Span>
+    ensures { λ r. ⌜ r ≡ when (writable count (bounds-as bounds)) (record { after = bounds .first - 1; upto = bounds .last }) ⌝ }
+{
+    if count == 0 && bounds.last == 0 {
+        let after = if bounds.first == 0 { 0 } else { bounds.first - 1 };
+        return Some(Span { after, upto: 0 });
+    }
+    real_lines(count, bounds)
+}
+
+/// Whether there is room for the file is looked at before the range.
+fn write(sizes: Sizes, slot: Slot, range: Result<Bounds, Refusal>) -> Result<Plan, Refusal>
+    requires { ⌜ Sizes-fit sizes ⌝ }
+    requires { ⌜ Range-ordered range ⌝ }
+    ensures { λ r. ⌜ checked-by plan-as r ≡ decide-save (sizes-as sizes) (slot-as slot) (checked-by bounds-as range) ⌝ }
+{
+    let Some(slot) = file_place(slot) else {
+        return Err(Refusal::TooLarge);
+    };
+    let bounds = range?;
+    let Some(span) = writable_lines(sizes.count, bounds) else {
+        return Err(Refusal::NoLine);
+    };
+    Ok(save(sizes, slot, span))
+}
+
+/// All of the text goes, copies of a file's lines come.
+fn edit(sizes: Sizes, slot: Slot) -> Result<Plan, Refusal>
+    requires { ⌜ Sizes-fit sizes ⌝ }
+    requires { ⌜ Slot-fits slot ⌝ }
+    ensures { λ r. ⌜ checked-by plan-as r ≡ decide-edit (sizes-as sizes) (slot-as slot) ⌝ }
+{
+    if !slot.found {
+        return Err(Refusal::NoFile);
+    }
+    let span = Span {
+        after: 0,
+        upto: sizes.count,
+    };
+    let coming = Coming {
+        source: Source::Copied {
+            from: slot.before,
+            to: slot.before + slot.lines,
+        },
+        many: slot.lines,
+    };
+    Ok(replace(
+        sizes,
+        Walk::Skip,
+        span,
+        coming,
+        slot.lines,
+        Rows::Number(slot.lines),
+    ))
+}
+
+/// The plan for what is done with lines of the text.
+fn plan_lines(sizes: Sizes, bounds: Bounds, deed: Deed<'_>) -> Result<Plan, Refusal>
+    requires { ⌜ Sizes-fit sizes ⌝ }
+    requires { ⌜ length (lines-given (deed-of deed)) < 4294967296 ⌝ }
+    ensures { λ r. ⌜ checked-by plan-as r ≡ decide-lines (sizes-as sizes) (given-of (deed-of (deed .entry))) (bounds-as bounds) (deed-of (deed .entry)) ⌝ }
+{
+    match deed {
+        Deed::Append(lines) => append(sizes, lines, bounds),
+        Deed::Insert(lines) => insert(sizes, lines, bounds),
+        Deed::Change(lines) => change(sizes, lines, bounds),
+        Deed::Delete => delete(sizes, bounds),
+        Deed::Join => join(sizes, bounds),
+        Deed::Print => print(sizes, Walk::Show, bounds),
+        Deed::Number => print(sizes, Walk::ShowNumbered, bounds),
+        Deed::LineNumber => line_number(sizes, bounds),
+        Deed::GoTo => go_to(sizes, bounds),
+        _ => Err(Refusal::Unknown),
+    }
+}
+
+/// The plan for a command, or why it is refused.
+pub fn plan_command(sizes: Sizes, slot: Slot, simple: Simple<'_>) -> Result<Plan, Refusal>
+    requires { ⌜ Sizes-fit sizes ⌝ }
+    requires { ⌜ Slot-fits slot ⌝ }
+    requires { ⌜ length (lines-given (deed-of (simple .deed))) < 4294967296 ⌝ }
+    ensures { λ r. ⌜ checked-by plan-as r ≡ decide (sizes-as sizes) (slot-as slot) (given-of (deed-of (simple .entry .deed))) (simple-of (simple .entry)) ⌝ }
+{
+    if !known(simple) {
+        return Err(Refusal::Unknown);
+    }
+    let range = command_bounds(sizes.count, sizes.current, simple);
+    match simple.deed {
+        Deed::Write(_) => write(sizes, slot, range),
+        Deed::Edit(_) => edit(sizes, slot),
+        Deed::Files => Ok(say(sizes, Rows::Files)),
+        deed => plan_lines(sizes, range?, deed),
+    }
 }
