@@ -1,0 +1,4 @@
+pub mod Numbers
+pub mod Registers
+pub mod Sections
+pub mod Abstract
