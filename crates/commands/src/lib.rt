@@ -12,21 +12,21 @@ pub use bounds::command_bounds;
 pub use bounds::known;
 pub use laws::begins_alike;
 pub use laws::plans_stand;
+pub use laws::reads_few;
 pub use laws::reads_well;
 pub use laws::smalls_weigh;
 pub use laws::turns_alike;
 pub use laws::turns_allowed;
 pub use laws::typed_allowed;
 pub use laws::weighs_alike;
-
-
-
-
-
-
-
-
-
+pub use plan::Plan;
+pub use plan::Rows;
+pub use plan::Sizes;
+pub use plan::Slot;
+pub use plan::Source;
+pub use plan::Span;
+pub use plan::Splice;
+pub use plan::Update;
+pub use plan::Walk;
+pub use plan::plan_command;
 pub use refusal::Refusal;
-
-
