@@ -30,3 +30,7 @@ pub use plan::Update;
 pub use plan::Walk;
 pub use plan::plan_command;
 pub use refusal::Refusal;
+pub use weights::file_total;
+pub use weights::no_room;
+pub use weights::stand_size;
+pub use weights::text_total;
