@@ -14,3 +14,4 @@ pub mod Readings
 pub mod Typed
 pub mod Handed
 pub mod Decided
+pub mod Totals

@@ -1,4 +1,5 @@
 //! What is proved of what is kept, beside the plain house: each law is the contract of a function.
+ghost use Rattle.commands.specs.Smalls.{Totals-stand};
 ghost use Rattle.commands.specs.Held.{Begins-alike, Plans-stand, Reads-few, Reads-well, Smalls-weigh, Turns-alike, Turns-allowed, Typed-allowed, Weighs-alike};
 
 /// At first nothing is kept, and the plain house is empty.
@@ -32,6 +33,13 @@ pub fn plans_stand() -> u8
 /// The weight of what is kept follows from the small numbers.
 pub fn smalls_weigh() -> u8
     ensures { λ _. ⌜ Smalls-weigh ⌝ }
+{
+    0
+}
+
+/// The weight afterwards follows from the weight before and a few numbers.
+pub fn totals_stand() -> u8
+    ensures { λ _. ⌜ Totals-stand ⌝ }
 {
     0
 }

@@ -15,6 +15,7 @@ pub use laws::plans_stand;
 pub use laws::reads_few;
 pub use laws::reads_well;
 pub use laws::smalls_weigh;
+pub use laws::totals_stand;
 pub use laws::turns_alike;
 pub use laws::turns_allowed;
 pub use laws::typed_allowed;
