@@ -6,7 +6,6 @@ pub mod Texts
 pub mod Brought
 pub mod Alike
 pub mod Filed
-
 pub mod Turned
 pub mod Planned
 pub mod Granted

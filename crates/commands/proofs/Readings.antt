@@ -51,7 +51,7 @@ module _ (n : ℕ) where
   up-rest d bs (c ∷ b ∷ cs) e =
       let t = left-tail n c (b ∷ cs) e in
       pick-both (Rest n) (eqb c d) (got bs (b ∷ cs)) _ t
-        (pick-both (Rest n) (eqb c 92) (up-to d (bs ++ c ∷ b ∷ []) cs) (up-to d (bs ++ c ∷ []) (b ∷ cs)) (up-rest d (bs ++ c ∷ b ∷ []) cs (left-tail n b cs t)) (up-rest d (bs ++ c ∷ []) (b ∷ cs) t))
+      (pick-both (Rest n) (eqb c 92) (up-to d (bs ++ c ∷ b ∷ []) cs) (up-to d (bs ++ c ∷ []) (b ∷ cs)) (up-rest d (bs ++ c ∷ b ∷ []) cs (left-tail n b cs t)) (up-rest d (bs ++ c ∷ []) (b ∷ cs) t))
 
   offsets-rest : (m : ℕ) (a : Address) (cs : List ℕ) → Left n cs → Rest n (offsets m a cs)
   unfolding offsets
@@ -60,8 +60,8 @@ module _ (n : ℕ) where
   offsets-rest (suc m) a (c ∷ cs) e =
       let t = digits-rest cs (left-tail n c cs e) in
       pick-both (Rest n) (ltb 9 (digits-long cs)) none _ refl
-        (pick-both (Rest n) (eqb c 43) (offsets m (record { kind = a .kind; number = a .number; text = a .text; on = a .on + amount cs; back = a .back }) (after-digits cs)) _ (offsets-rest m _ (after-digits cs) t)
-          (pick-both (Rest n) (eqb c 45) (offsets m (record { kind = a .kind; number = a .number; text = a .text; on = a .on; back = a .back + amount cs }) (after-digits cs)) (got a (c ∷ cs)) (offsets-rest m _ (after-digits cs) t) e))
+      (pick-both (Rest n) (eqb c 43) (offsets m (record { kind = a .kind; number = a .number; text = a .text; on = a .on + amount cs; back = a .back }) (after-digits cs)) _ (offsets-rest m _ (after-digits cs) t)
+      (pick-both (Rest n) (eqb c 45) (offsets m (record { kind = a .kind; number = a .number; text = a .text; on = a .on; back = a .back + amount cs }) (after-digits cs)) (got a (c ∷ cs)) (offsets-rest m _ (after-digits cs) t) e))
 
   base-rest : (cs : List ℕ) → Left n cs → Rest n (base cs)
   unfolding base
@@ -70,11 +70,11 @@ module _ (n : ℕ) where
       let t = left-tail n c cs e in
       let found : (d k : ℕ) → Rest n (with-got (up-to d [] cs) (λ z ds. got (address k 0 z) ds)) = λ d k. with-rest (up-to d [] cs) (λ z ds. got (address k 0 z) ds) (up-rest d [] cs t) (λ z ds h. h) in
       pick-both (Rest n) (digit c) (pick (ltb 9 (digits-long (c ∷ cs))) none (got (address 2 (number-part 0 (c ∷ cs)) []) (after-digits cs))) _
-        (pick-both (Rest n) (ltb 9 (digits-long (c ∷ cs))) none (got (address 2 (number-part 0 (c ∷ cs)) []) (after-digits cs)) refl (digits-rest cs t))
+      (pick-both (Rest n) (ltb 9 (digits-long (c ∷ cs))) none (got (address 2 (number-part 0 (c ∷ cs)) []) (after-digits cs)) refl (digits-rest cs t))
       (pick-both (Rest n) (eqb c 46) (got here cs) _ t
       (pick-both (Rest n) (eqb c 36) (got (address 1 0 []) cs) _ t
       (pick-both (Rest n) (eqb c 39) (pick (pick (none-of cs) false (between 97 122 (getD cs 0 0))) (got (address 3 (getD cs 0 0) []) (less-one cs)) none) _
-        (pick-both (Rest n) (pick (none-of cs) false (between 97 122 (getD cs 0 0))) (got (address 3 (getD cs 0 0) []) (less-one cs)) none (less-left cs t) refl)
+      (pick-both (Rest n) (pick (none-of cs) false (between 97 122 (getD cs 0 0))) (got (address 3 (getD cs 0 0) []) (less-one cs)) none (less-left cs t) refl)
       (pick-both (Rest n) (eqb c 47) (with-got (up-to 47 [] cs) (λ z ds. got (address 4 0 z) ds)) _ (found 47 4)
       (pick-both (Rest n) (eqb c 63) (with-got (up-to 63 [] cs) (λ z ds. got (address 5 0 z) ds)) _ (found 63 5)
       (pick-both (Rest n) (or (eqb c 43) (eqb c 45)) (got here (c ∷ cs)) none e refl))))))
@@ -90,11 +90,11 @@ module _ (n : ℕ) where
   range-rest cs e =
       let second : (a : Address) (ds : List ℕ) → List ℕ → Got ℕ Range = λ a ds es. with-got (or-here es) (λ b fs. got (range-of (pick (next-is 44 ds) 2 3) a b) fs) in
       pick-both (Rest n) (next-is 37 cs) (got (range-of 4 here here) (less-one cs)) _ (less-left cs e)
-        (pick-both (Rest n) (starts-address cs) (with-got (an-address cs) (λ a ds. pick (or (next-is 44 ds) (next-is 59 ds)) (second a ds (less-one ds)) (got (range-of 1 a here) ds))) _
-          (with-rest (an-address cs) (λ a ds. pick (or (next-is 44 ds) (next-is 59 ds)) (second a ds (less-one ds)) (got (range-of 1 a here) ds)) (address-rest cs e) (λ a ds h.
-            pick-both (Rest n) (or (next-is 44 ds) (next-is 59 ds)) (second a ds (less-one ds)) (got (range-of 1 a here) ds)
-              (with-rest (or-here (less-one ds)) (λ b fs. got (range-of (pick (next-is 44 ds) 2 3) a b) fs) (or-here-rest (less-one ds) (less-left ds h)) (λ b fs k. k)) h))
-          (pick-both (Rest n) (next-is 44 cs) (got (range-of 4 here here) (less-one cs)) (got (range-of 0 here here) cs) (less-left cs e) e))
+      (pick-both (Rest n) (starts-address cs) (with-got (an-address cs) (λ a ds. pick (or (next-is 44 ds) (next-is 59 ds)) (second a ds (less-one ds)) (got (range-of 1 a here) ds))) _
+      (with-rest (an-address cs) (λ a ds. pick (or (next-is 44 ds) (next-is 59 ds)) (second a ds (less-one ds)) (got (range-of 1 a here) ds)) (address-rest cs e) (λ a ds h.
+      pick-both (Rest n) (or (next-is 44 ds) (next-is 59 ds)) (second a ds (less-one ds)) (got (range-of 1 a here) ds)
+      (with-rest (or-here (less-one ds)) (λ b fs. got (range-of (pick (next-is 44 ds) 2 3) a b) fs) (or-here-rest (less-one ds) (less-left ds h)) (λ b fs k. k)) h))
+      (pick-both (Rest n) (next-is 44 cs) (got (range-of 4 here here) (less-one cs)) (got (range-of 0 here here) cs) (less-left cs e) e))
 
 -- LINES AND NAMES
 lines-bytes : (l cs : List ℕ) → all-bytes l ≡ true → all-bytes cs ≡ true → every all-bytes (lines-of l cs) ≡ true
@@ -103,8 +103,8 @@ lines-bytes l [] e f = and-from (all-bytes l) true e refl
 lines-bytes l (c ∷ cs) e f =
     let p = and-parts (ltb c 256) (all-bytes cs) f in
     pick-both (λ z. every all-bytes z ≡ true) (eqb c 10) (l ∷ lines-of [] cs) (lines-of (l ++ c ∷ []) cs)
-      (and-from (all-bytes l) (every all-bytes (lines-of [] cs)) e (lines-bytes [] cs refl (p .1)))
-      (lines-bytes (l ++ c ∷ []) cs (every-both (λ b. ltb b 256) l (c ∷ []) e (and-from (ltb c 256) true (p .0) refl)) (p .1))
+    (and-from (all-bytes l) (every all-bytes (lines-of [] cs)) e (lines-bytes [] cs refl (p .1)))
+    (lines-bytes (l ++ c ∷ []) cs (every-both (λ b. ltb b 256) l (c ∷ []) e (and-from (ltb c 256) true (p .0) refl)) (p .1))
 
 lines-few : (l cs : List ℕ) → length (lines-of l cs) ≤ suc (length cs)
 unfolding lines-of
@@ -155,7 +155,7 @@ module _ (n : ℕ) where
   name-well : (cs : List ℕ) → Left n cs → Name-well (a-file cs)
   name-well cs e =
       name-fits cs (next-is 32 cs && (leb 2 (length cs) && leb (length cs) 65))
-        (λ t. leb-true (length cs) 65 (and-parts (leb 2 (length cs)) (leb (length cs) 65) (and-parts (next-is 32 cs) (leb 2 (length cs) && leb (length cs) 65) t .1) .1)) e
+      (λ t. leb-true (length cs) 65 (and-parts (leb 2 (length cs)) (leb (length cs) 65) (and-parts (next-is 32 cs) (leb 2 (length cs) && leb (length cs) 65) t .1) .1)) e
 
   lines-deed : (g : Got ℕ (List (List ℕ))) (f : List (List ℕ) → Deed) → Lines-well n g → ((ls : List (List ℕ)) → Lines-given n ls → Deed-given n (f ls)) → Well n (with-got g (λ ls ds. got (f ls) ds))
   lines-deed none f h k = refl
@@ -190,7 +190,7 @@ module _ (n : ℕ) where
       (pick-both (Well n) (eqb c 109) (with-got (or-here cs) (λ a ds. ended (move a) ds)) _ (with-well (or-here cs) (λ a ds. ended (move a) ds) (λ a ds. ended-well (move a) ds (plain-deed (move a) refl refl)))
       (pick-both (Well n) (eqb c 116) (with-got (or-here cs) (λ a ds. ended (copy a) ds)) _ (with-well (or-here cs) (λ a ds. ended (copy a) ds) (λ a ds. ended-well (copy a) ds (plain-deed (copy a) refl refl)))
       (pick-both (Well n) (eqb c 107) (pick (eqb (length cs) 1 && between 97 122 (getD cs 0 0)) (got (mark (getD cs 0 0)) []) none) _
-        (pick-both (Well n) (eqb (length cs) 1 && between 97 122 (getD cs 0 0)) (got (mark (getD cs 0 0)) []) none (plain-deed (mark (getD cs 0 0)) refl refl) refl)
+      (pick-both (Well n) (eqb (length cs) 1 && between 97 122 (getD cs 0 0)) (got (mark (getD cs 0 0)) []) none (plain-deed (mark (getD cs 0 0)) refl refl) refl)
       (pick-both (Well n) (eqb c 112) (ended print cs) _ (ended-well print cs (plain-deed print refl refl))
       (pick-both (Well n) (eqb c 110) (ended number cs) _ (ended-well number cs (plain-deed number refl refl))
       (pick-both (Well n) (eqb c 61) (ended where-is cs) _ (ended-well where-is cs (plain-deed where-is refl refl))
@@ -201,9 +201,9 @@ module _ (n : ℕ) where
       (pick-both (Well n) (eqb c 114) (with-got (a-file cs) (λ m ds. got (load m) ds)) _ (name-deed (a-file cs) load ns (λ m h. plain-deed (load m) h refl))
       (pick-both (Well n) (eqb c 102) (ended files cs) _ (ended-well files cs (plain-deed files refl refl))
       (pick-both (Well n) (eqb c 115) (pick (next-is 47 cs) (with-got (up-to 47 [] (less-one cs)) (λ p ds. with-got (up-to 47 [] ds) (λ r es. with-got (which-of es) (λ k fs. got (swap p r k) fs)))) none) none
-        (pick-both (Well n) (next-is 47 cs) (with-got (up-to 47 [] (less-one cs)) (λ p ds. with-got (up-to 47 [] ds) (λ r es. with-got (which-of es) (λ k fs. got (swap p r k) fs)))) none
-          (with-well (up-to 47 [] (less-one cs)) _ (λ p ds. with-well (up-to 47 [] ds) _ (λ r es. with-well (which-of es) _ (λ k fs. plain-deed (swap p r k) refl refl)))) refl)
-        refl)))))))))))))))))
+      (pick-both (Well n) (next-is 47 cs) (with-got (up-to 47 [] (less-one cs)) (λ p ds. with-got (up-to 47 [] ds) (λ r es. with-got (which-of es) (λ k fs. got (swap p r k) fs)))) none
+      (with-well (up-to 47 [] (less-one cs)) _ (λ p ds. with-well (up-to 47 [] ds) _ (λ r es. with-well (which-of es) _ (λ k fs. plain-deed (swap p r k) refl refl)))) refl)
+      refl)))))))))))))))))
 
 -- COMMANDS
 record Command-given (n : ℕ) (c : Command) : Type 0 where
@@ -231,11 +231,11 @@ module _ (n : ℕ) where
   unfolding command
   command-well cs e =
       with-command (a-range cs) _ (range-rest n cs e) (λ r ds h.
-        pick-both (Command-well n) (or (next-is 103 ds) (next-is 118 ds)) _ (with-got (deed ds) (λ d es. got (plain (record { range = r; deed = d })) es))
-          (pick-both (Command-well n) (next-is 47 (less-one ds)) (with-got (up-to 47 [] (less-one (less-one ds))) (λ p es. with-got (simple es) (λ s fs. pick (for-many (s .deed)) (got (all-lines r (next-is 103 ds) p s) fs) none))) none
-            (any-command (up-to 47 [] (less-one (less-one ds))) _ (λ p es. any-command (simple es) _ (λ s fs.
-              pick-both (Command-well n) (for-many (s .deed)) (got (all-lines r (next-is 103 ds) p s) fs) none (record { well = refl; few = omega arith }) refl))) refl)
-          (plain-command r (deed ds) (deed-well n ds h)))
+      pick-both (Command-well n) (or (next-is 103 ds) (next-is 118 ds)) _ (with-got (deed ds) (λ d es. got (plain (record { range = r; deed = d })) es))
+      (pick-both (Command-well n) (next-is 47 (less-one ds)) (with-got (up-to 47 [] (less-one (less-one ds))) (λ p es. with-got (simple es) (λ s fs. pick (for-many (s .deed)) (got (all-lines r (next-is 103 ds) p s) fs) none))) none
+      (any-command (up-to 47 [] (less-one (less-one ds))) _ (λ p es. any-command (simple es) _ (λ s fs.
+      pick-both (Command-well n) (for-many (s .deed)) (got (all-lines r (next-is 103 ds) p s) fs) none (record { well = refl; few = omega arith }) refl))) refl)
+      (plain-command r (deed ds) (deed-well n ds h)))
 
   whole-well : (g : Got ℕ Command) (c : Command) → Command-well n g → whole-command g ≡ c ∷ [] → Command-given n c
   unfolding whole-command

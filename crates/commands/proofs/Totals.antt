@@ -23,15 +23,17 @@ sum-first (n ∷ r) = refl
 
 sum-pushed : (r : List ℕ) (n : ℕ) → sum (pushed r n) + oldest r ≡ sum r + n
 sum-pushed r n =
-    elim (cases-lt (length r) 64)
-      [ inl l ↦ rw (lt-ltb (length r) 64 l) (let e = added-append (λ m. m) r (n ∷ []) in omega arith)
-      | inr l ↦ rw (le-ltb (length r) 64 l) (let e = added-append (λ m. m) (drop 1 r) (n ∷ []) in let f = sum-first r in omega arith) ]
+    elim (cases-lt (length r) 64) [
+      | inl l ↦ rw (lt-ltb (length r) 64 l) (let e = added-append (λ m. m) r (n ∷ []) in omega arith)
+      | inr l ↦ rw (le-ltb (length r) 64 l) (let e = added-append (λ m. m) (drop 1 r) (n ∷ []) in let f = sum-first r in omega arith)
+    ]
 
 oldest-less : (r : List ℕ) → oldest r ≤ sum r
 oldest-less r =
-    elim (cases-lt (length r) 64)
-      [ inl l ↦ rw (lt-ltb (length r) 64 l) (omega arith)
-      | inr l ↦ rw (le-ltb (length r) 64 l) (let f = sum-first r in omega arith) ]
+    elim (cases-lt (length r) 64) [
+      | inl l ↦ rw (lt-ltb (length r) 64 l) (omega arith)
+      | inr l ↦ rw (le-ltb (length r) 64 l) (let f = sum-first r in omega arith)
+    ]
 
 -- THE TABLE OF FILES
 record Entry-there (n : List ℕ) (es : List Entry) (x : Slot) (at : ℕ) : Type 0 where
@@ -69,9 +71,10 @@ entry-looked : (n : List ℕ) (es : List Entry) (at from : ℕ) → Entry-there 
 unfolding look-up
 entry-looked n [] at from = inr (record { found = refl; place = omega arith; size = refl })
 entry-looked n (e ∷ es) at from =
-    elim (cases-bool (same (e .name) n))
-      [ inl s ↦ inl (entry-here n e es at from s)
-      | inr s ↦ elim (entry-looked n es (suc at) (from + e .lines)) [ inl t ↦ inl (entry-there-more n e es at from s t) | inr t ↦ inr (entry-missing-more n e es at from s t) ] ]
+    elim (cases-bool (same (e .name) n)) [
+      | inl s ↦ inl (entry-here n e es at from s)
+      | inr s ↦ elim (entry-looked n es (suc at) (from + e .lines)) [ inl t ↦ inl (entry-there-more n e es at from s t) | inr t ↦ inr (entry-missing-more n e es at from s t) ]
+    ]
 
 abbrev entry-at : ℕ → Entry → List Entry → List Entry
 entry-at i e es = take i es ++ (e ∷ drop (suc i) es)
@@ -105,9 +108,10 @@ entry-total w n es x lines came (inr t) =
 
 pub totals-stand : Totals-stand
 unfolding Totals-stand news-by
-totals-stand s p went came n =
-    ( (λ h.
-        let a = sum-pushed (s .ring) (stand-size (s .count) (p .after) (p .upto) went (p .came)) in
-        let b = oldest-less (s .ring) in
-        omega (arith, a, b))
-    , entry-total (s .weight + sum (s .ring)) n (s .files) (look-up n 0 0 (s .files)) (p .came) came (entry-looked n (s .files) 0 0))
+totals-stand s p went came n = (
+  (λ h.
+      let a = sum-pushed (s .ring) (stand-size (s .count) (p .after) (p .upto) went (p .came)) in
+      let b = oldest-less (s .ring) in
+      omega (arith, a, b)),
+  entry-total (s .weight + sum (s .ring)) n (s .files) (look-up n 0 0 (s .files)) (p .came) came (entry-looked n (s .files) 0 0),
+)

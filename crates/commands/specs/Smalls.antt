@@ -42,7 +42,7 @@ unfoldable pub Totals-stand : Type 0
 Totals-stand =
     (s : Small) (p : Plan) (went came : ℕ) (n : List ℕ) →
     (went ≤ s .weight →
-        smalls-weight (updated (news-by the-text s p went came n) s)
-        ≡ text-total (smalls-weight s) went came (stand-size (s .count) (p .after) (p .upto) went (p .came)) (oldest (s .ring)))
+    smalls-weight (updated (news-by the-text s p went came n) s)
+    ≡ text-total (smalls-weight s) went came (stand-size (s .count) (p .after) (p .upto) went (p .came)) (oldest (s .ring)))
     × (smalls-weight (updated (news-by (the-file (look-up n 0 0 (s .files) .place)) s p went came n) s)
-        ≡ file-total (smalls-weight s) (look-up n 0 0 (s .files) .found) (look-up n 0 0 (s .files) .size) came (length n))
+    ≡ file-total (smalls-weight s) (look-up n 0 0 (s .files) .found) (look-up n 0 0 (s .files) .size) came (length n))

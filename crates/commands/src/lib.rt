@@ -2,6 +2,7 @@
 //! house does.
 
 mod bounds;
+mod decide;
 mod laws;
 mod plan;
 mod refusal;
@@ -10,6 +11,7 @@ mod weights;
 pub use bounds::Bounds;
 pub use bounds::command_bounds;
 pub use bounds::known;
+pub use decide::plan_command;
 pub use laws::begins_alike;
 pub use laws::plans_stand;
 pub use laws::reads_few;
@@ -29,7 +31,6 @@ pub use plan::Span;
 pub use plan::Splice;
 pub use plan::Update;
 pub use plan::Walk;
-pub use plan::plan_command;
 pub use refusal::Refusal;
 pub use weights::file_total;
 pub use weights::no_room;

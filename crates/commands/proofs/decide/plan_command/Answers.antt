@@ -8,12 +8,12 @@ use Rattle.commands.specs.Turn.{given-of}
 use Rattle.commands.specs.Code.{checked-by, bounds-as, sizes-as, slot-as}
 use Rattle.commands.proofs.Handed.{then-lost, then-on}
 use Rattle.commands.proofs.Decided.{range-ordered, known-by, decide-unknown, save-decided, edit-decided, files-decided, lines-decided}
-use Rattle.commands.proofs.plan.plan_command.Needs as need
+use Rattle.commands.proofs.decide.plan_command.Needs as need
 
 pub returns-then-not-known : need.returns-then-not-known
 returns-then-not-known c =
     decide-unknown (sizes-as (c .args .sizes)) (slot-as (c .args .slot)) (given-of (deed-of (c .args .simple .deed))) (simple-of (c .args .simple))
-        (sym (c .known .ensures) ∙ (c .if-not-known .taken))
+    (sym (c .known .ensures) ∙ (c .if-not-known .taken))
 
 pub write-requires : need.write-requires
 write-requires c κs = (search needs, range-ordered (c .command-bounds-range .result) (c .args .sizes .count) (c .args .sizes .current) (simple-of (c .args .simple)) (c .command-bounds-range .ensures))
@@ -27,7 +27,7 @@ returns-in-Break-range c =
     let k = known-by (c .known .result) (simple-of x) (c .known .ensures) (c .if-not-known .left) in
     rw (p .1, p .2)
     (then-lost (command-bounds (s .count) (s .at) (simple-of x)) (λ b. decide-lines s g b (deed-of (x .deed))) _ (c .in-Break-range .ensures tt)
-        ∙ lines-decided s (slot-as (c .args .slot)) g x (command-bounds (s .count) (s .at) (simple-of x)) k refl (c .in-rest .not-Write) (c .in-rest .not-Edit) (c .in-rest .not-Files))
+    ∙ lines-decided s (slot-as (c .args .slot)) g x (command-bounds (s .count) (s .at) (simple-of x)) k refl (c .in-rest .not-Write) (c .in-rest .not-Edit) (c .in-rest .not-Files))
 
 pub returns-in-Write : need.returns-in-Write
 returns-in-Write c =
@@ -35,7 +35,7 @@ returns-in-Write c =
     let k = known-by (c .known .result) (simple-of x) (c .known .ensures) (c .if-not-known .left) in
     c .write .ensures
     ∙ save-decided (sizes-as (c .args .sizes)) (slot-as (c .args .slot)) (given-of (deed-of (x .deed))) x (checked-by bounds-as (c .command-bounds-range .result)) k (c .command-bounds-range .ensures)
-        (c .in-Write .field-0) (c .in-Write .is)
+    (c .in-Write .field-0) (c .in-Write .is)
 
 pub returns-in-Edit : need.returns-in-Edit
 returns-in-Edit c =
@@ -43,7 +43,7 @@ returns-in-Edit c =
     let k = known-by (c .known .result) (simple-of x) (c .known .ensures) (c .if-not-known .left) in
     c .edit .ensures
     ∙ edit-decided (sizes-as (c .args .sizes)) (slot-as (c .args .slot)) (given-of (deed-of (x .deed))) x (checked-by bounds-as (c .command-bounds-range .result)) k (c .command-bounds-range .ensures)
-        (c .in-Edit .field-0) (c .in-Edit .is)
+    (c .in-Edit .field-0) (c .in-Edit .is)
 
 pub returns-in-Files : need.returns-in-Files
 returns-in-Files c =
@@ -51,7 +51,7 @@ returns-in-Files c =
     let k = known-by (c .known .result) (simple-of x) (c .known .ensures) (c .if-not-known .left) in
     ap good (c .say .ensures)
     ∙ files-decided (sizes-as (c .args .sizes)) (slot-as (c .args .slot)) (given-of (deed-of (x .deed))) x (checked-by bounds-as (c .command-bounds-range .result)) k (c .command-bounds-range .ensures)
-        (c .in-Files .is)
+    (c .in-Files .is)
 
 pub returns-in-Continue-range : need.returns-in-Continue-range
 returns-in-Continue-range c =
