@@ -36,6 +36,9 @@ module _ (s : Sizes) (f : Slot) (g : Given) (c : Simple) where
   unfolding decide
   decide-known e = rw e
 
+pub known-by : (t : Bool) (c : Simple) → t ≡ known c → t ≡ true → known c ≡ true
+known-by t c e h = sym e ∙ h
+
 pub core-known : (c : Simple) → known c ≡ true → core-deed (c .deed) ≡ true
 core-known c e = and-parts (plain-range (c .range)) (core-deed (c .deed)) e .1
 

@@ -6,7 +6,6 @@ pub mod Texts
 pub mod Brought
 pub mod Alike
 pub mod Filed
-
 pub mod Turned
 pub mod Planned
 pub mod Granted
@@ -14,3 +13,4 @@ pub mod Readings
 pub mod Typed
 pub mod Handed
 pub mod Decided
+pub mod Totals

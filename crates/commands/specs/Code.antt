@@ -92,8 +92,16 @@ given-in ls = plan.given-size (length (lines-in ls)) (short-all (lines-in ls))
 abbrev pub plan-as : code-plan.Plan → plan.Plan
 plan-as p =
     record {
-      walk = walk-as (p .walk); after = p .span .after; upto = p .span .upto; update = update-as (p .update); splice = splice-as (p .splice);
-      came = p .came; count = p .count; current = p .current; rows = rows-as (p .rows) }
+      walk = walk-as (p .walk);
+      after = p .span .after;
+      upto = p .span .upto;
+      update = update-as (p .update);
+      splice = splice-as (p .splice);
+      came = p .came;
+      count = p .count;
+      current = p .current;
+      rows = rows-as (p .rows);
+    }
 
 -- numbers of 32 bits, so that no sum of them is too large
 pub record Sizes-fit (s : code-sizes.Sizes) : Type 0 where

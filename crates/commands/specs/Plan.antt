@@ -59,13 +59,13 @@ pub data Rows : Type 0 where
 
 pub record Plan : Type 0 where
   pub walk : Walk
-  pub after : ℕ                      -- the lines of the text after this one
-  pub upto : ℕ                       -- up to this one
+  pub after : ℕ  -- the lines of the text after this one
+  pub upto : ℕ  -- up to this one
   pub update : Update
   pub splice : Splice
-  pub came : ℕ                       -- how many lines come
-  pub count : ℕ                      -- how many lines the text has then
-  pub current : ℕ                    -- the current line then
+  pub came : ℕ  -- how many lines come
+  pub count : ℕ  -- how many lines the text has then
+  pub current : ℕ  -- the current line then
   pub rows : Rows
 
 -- what the decision is made from: lines of the text, the current one, lines of all files; the file that is named; the lines given
@@ -79,7 +79,7 @@ sizes c a o = record { count = c; at = a; offset = o }
 
 pub record Given : Type 0 where
   pub many : ℕ
-  pub short : Bool                   -- none of more than 1,024 bytes
+  pub short : Bool  -- none of more than 1,024 bytes
 
 abbrev pub given-size : ℕ → Bool → Given
 given-size n t = record { many = n; short = t }

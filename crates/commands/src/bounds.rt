@@ -80,7 +80,12 @@ fn to_second(count: u64, current: u64, first: u64, second: Address<'_>) -> Resul
 }
 
 /// The lines of a range, or those that are taken without one.
-fn range_bounds(count: u64, current: u64, range: Range<'_>, default: Bounds) -> Result<Bounds, Refusal>
+fn range_bounds(
+    count: u64,
+    current: u64,
+    range: Range<'_>,
+    default: Bounds,
+) -> Result<Bounds, Refusal>
     ensures { λ r. ⌜ checked-by bounds-as r ≡ resolve-range count current (range-of (range .entry)) (bounds-as default) ⌝ }
 {
     match range.reach {

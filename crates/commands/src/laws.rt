@@ -1,5 +1,6 @@
 //! What is proved of what is kept, beside the plain house: each law is the contract of a function.
-ghost use Rattle.commands.specs.Held.{Begins-alike, Plans-stand, Reads-well, Smalls-weigh, Turns-alike, Turns-allowed, Typed-allowed, Weighs-alike};
+ghost use Rattle.commands.specs.Smalls.{Totals-stand};
+ghost use Rattle.commands.specs.Held.{Begins-alike, Plans-stand, Reads-few, Reads-well, Smalls-weigh, Turns-alike, Turns-allowed, Typed-allowed, Weighs-alike};
 
 /// At first nothing is kept, and the plain house is empty.
 pub fn begins_alike() -> u8
@@ -36,9 +37,23 @@ pub fn smalls_weigh() -> u8
     0
 }
 
+/// The weight afterwards follows from the weight before and a few numbers.
+pub fn totals_stand() -> u8
+    ensures { λ _. ⌜ Totals-stand ⌝ }
+{
+    0
+}
+
 /// Lines given and names that are read are bytes, and names aren't too long.
 pub fn reads_well() -> u8
     ensures { λ _. ⌜ Reads-well ⌝ }
+{
+    0
+}
+
+/// No more lines are given than bytes are typed.
+pub fn reads_few() -> u8
+    ensures { λ _. ⌜ Reads-few ⌝ }
 {
     0
 }

@@ -13,7 +13,7 @@ returns-in-Break-line c =
     let r = c .args .range in
     rw (p .1, p .2)
     (then-lost (resolve-plain (c .args .count) (c .args .current) (address-of (r .first))) (λ n. good (bounds n n)) _ (c .in-Break-line .ensures tt)
-        ∙ sym (range-one (c .args .count) (c .args .current) r (bounds-as (c .args .default)) (c .in-One .is)))
+    ∙ sym (range-one (c .args .count) (c .args .current) r (bounds-as (c .args .default)) (c .in-One .is)))
 
 pub returns-in-Break-first : need.returns-in-Break-first
 returns-in-Break-first c =
@@ -21,8 +21,8 @@ returns-in-Break-first c =
     let r = c .args .range in
     rw (p .1, p .2)
     (then-lost (resolve-plain (c .args .count) (c .args .current) (address-of (r .first)))
-            (λ n. then (resolve-plain (c .args .count) (c .args .current) (address-of (r .second))) (λ m. in-order n m)) _ (c .in-Break-first .ensures tt)
-        ∙ sym (range-two (c .args .count) (c .args .current) r (bounds-as (c .args .default)) (c .in-Two .is)))
+    (λ n. then (resolve-plain (c .args .count) (c .args .current) (address-of (r .second))) (λ m. in-order n m)) _ (c .in-Break-first .ensures tt)
+    ∙ sym (range-two (c .args .count) (c .args .current) r (bounds-as (c .args .default)) (c .in-Two .is)))
 
 pub returns-in-Break-first-2 : need.returns-in-Break-first-2
 returns-in-Break-first-2 c =
@@ -30,8 +30,8 @@ returns-in-Break-first-2 c =
     let r = c .args .range in
     rw (p .1, p .2)
     (then-lost (resolve-plain (c .args .count) (c .args .current) (address-of (r .first)))
-            (λ n. then (resolve-plain (c .args .count) n (address-of (r .second))) (λ m. in-order n m)) _ (c .in-Break-first-2 .ensures tt)
-        ∙ sym (range-from-first (c .args .count) (c .args .current) r (bounds-as (c .args .default)) (c .in-FromFirst .is)))
+    (λ n. then (resolve-plain (c .args .count) n (address-of (r .second))) (λ m. in-order n m)) _ (c .in-Break-first-2 .ensures tt)
+    ∙ sym (range-from-first (c .args .count) (c .args .current) r (bounds-as (c .args .default)) (c .in-FromFirst .is)))
 
 pub returns-in-Unspecified : need.returns-in-Unspecified
 unfolding resolve-range
@@ -47,14 +47,14 @@ pub returns-in-Continue-first : need.returns-in-Continue-first
 returns-in-Continue-first c =
     let r = c .args .range in
     then-on (resolve-plain (c .args .count) (c .args .current) (address-of (r .first)))
-        (λ n. then (resolve-plain (c .args .count) (c .args .current) (address-of (r .second))) (λ m. in-order n m)) (c .in-Continue-first .first) _ (c .in-Continue-first .ensures tt) (c .to-second .ensures)
+    (λ n. then (resolve-plain (c .args .count) (c .args .current) (address-of (r .second))) (λ m. in-order n m)) (c .in-Continue-first .first) _ (c .in-Continue-first .ensures tt) (c .to-second .ensures)
     ∙ sym (range-two (c .args .count) (c .args .current) r (bounds-as (c .args .default)) (c .in-Two .is))
 
 pub returns-in-Continue-first-2 : need.returns-in-Continue-first-2
 returns-in-Continue-first-2 c =
     let r = c .args .range in
     then-on (resolve-plain (c .args .count) (c .args .current) (address-of (r .first)))
-        (λ n. then (resolve-plain (c .args .count) n (address-of (r .second))) (λ m. in-order n m)) (c .in-Continue-first-2 .first) _ (c .in-Continue-first-2 .ensures tt) (c .to-second-in-FromFirst .ensures)
+    (λ n. then (resolve-plain (c .args .count) n (address-of (r .second))) (λ m. in-order n m)) (c .in-Continue-first-2 .first) _ (c .in-Continue-first-2 .ensures tt) (c .to-second-in-FromFirst .ensures)
     ∙ sym (range-from-first (c .args .count) (c .args .current) r (bounds-as (c .args .default)) (c .in-FromFirst .is))
 
 pub returns-in-All : need.returns-in-All

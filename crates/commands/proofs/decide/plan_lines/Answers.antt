@@ -1,7 +1,7 @@
 use borrow.Author.Needs.{needs}
 use Rattle.commands.specs.Plan.{decide-lines}
 use Rattle.commands.specs.Turn.{lines-given}
-use Rattle.commands.proofs.plan.plan_lines.Needs as need
+use Rattle.commands.proofs.decide.plan_lines.Needs as need
 
 pub append-requires : need.append-requires
 unfolding lines-given
