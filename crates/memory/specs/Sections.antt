@@ -1,14 +1,15 @@
--- The sections of the memory behind the registers, and how one of them is changed. Assumes nothing: these are definitions.
+-- The sections of the memory behind the registers, and what each function makes of the memory. Assumes nothing: these are definitions.
 use mathlib.Core.Bool.{Bool, true, false, _&&_}
 use mathlib.Core.List.{List, [], _∷_, _++_, map}
 use Prim.Native.Nat.{ℕ, zero, suc, _+_, _-_, _*_, _/_, _%_, _^_}
 use lib.Dec.{eqb, ltb, leb}
-use lib.ListN.{length, getD, set, take, drop}
-use Rattle.plain.specs.Pattern.{pick}
+use lib.ListN.{length, getD, set, take, drop, replicate}
+use Rattle.plain.specs.Pattern.{pick, or}
+use Rattle.plain.specs.Device.{lesser}
 use Rattle.lines.specs.Slots as packed
 use Rattle.lines.specs.Slots.{slots, with-slots}
-use Rattle.lines.specs.Moves.{copied, edited}
-use Rattle.journal.specs.Log.{Position, position}
+use Rattle.lines.specs.Moves.{spliced, edited}
+use Rattle.memory.specs.declared.directory.Position.{Position}
 use Rattle.memory.specs.Numbers.{capped}
 use Rattle.memory.specs.Registers.{part, with-part}
 
@@ -43,14 +44,37 @@ with-cells m cs = with-part 4480 65536 m cs
 abbrev pub with-words : List ℕ → List ℕ → List ℕ
 with-words m ws = with-part 70016 174763 m ws
 
--- ENTRIES: a position in 21 bits
+-- THE DIRECTORY: a position is an entry of 21 bits, the tape above 20 bits of the record
 abbrev pub packed-position : ℕ → ℕ → ℕ
 packed-position tape at = (tape % 2) * 1048576 + at % 1048576
 
-abbrev pub entry-number : Position → ℕ
-entry-number p = packed-position (p .tape) (p .at)
+abbrev pub entry-position : ℕ → Position
+entry-position n = record { tape = n / 1048576; at = n % 1048576 }
 
--- CELLS: a byte below a pending entry
+-- all of it, also what is not in use
+abbrev pub entries-in : List ℕ → List ℕ
+entries-in m = slots (words-in m)
+
+-- entry i of n; none is a hole
+unfoldable pub entry-at : ℕ → ℕ → List ℕ → Position
+entry-at n i m = entry-position (getD (take n (entries-in m)) i 0)
+
+-- the first entry from i on, of n, that lies on a tape; or where they end
+unfoldable pub next-at : ℕ → ℕ → ℕ → List ℕ → ℕ
+next-at tape i n m = packed.next-on tape i n (entries-in m)
+
+unfoldable pub with-entry : ℕ → Position → List ℕ → List ℕ
+with-entry i p m = with-words m (packed.stored (words-in m) i (packed-position (p .tape) (p .at)))
+
+-- nothing but holes
+unfoldable pub cleared : List ℕ → List ℕ
+cleared m = with-words m (replicate 174763 0)
+
+-- other entries in place of these
+unfoldable pub with-entries : List ℕ → List ℕ → List ℕ
+with-entries xs m = with-words m (with-slots (words-in m) xs)
+
+-- CELLS: a byte below the entry of a pending line
 abbrev pub low : ℕ → ℕ
 low c = c % 256
 
@@ -63,12 +87,41 @@ with-low c b = c / 256 * 256 + b % 256
 abbrev pub with-high : ℕ → ℕ → ℕ
 with-high c e = c % 256 + 256 * (e % 2097152)
 
+unfoldable pub pending-entries : ℕ → List ℕ → List ℕ
+pending-entries n m = map high (take n (cells-in m))
+
+-- one more pending line, as the jth
+unfoldable pub with-pending : ℕ → Position → List ℕ → List ℕ
+with-pending j p m = with-cells m (set (cells-in m) j (with-high (getD (cells-in m) j 0) (packed-position (p .tape) (p .at))))
+
 -- bytes over the low bytes of cells
 unfoldable pub laid-low : List ℕ → List ℕ → List ℕ
 laid-low [] cs = cs
 laid-low (b ∷ bs) [] = []
 laid-low (b ∷ bs) (c ∷ cs) = with-low c b ∷ laid-low bs cs
 
--- FILES: 67 numbers each
-abbrev pub name-cells : List ℕ → List ℕ → List ℕ
-name-cells bs old = map low bs ++ drop (length bs) old
+-- SPLICES of the first `count` entries: in place of q from p on come so many. Where it can't be done, the memory stays.
+abbrev pub can-splice : (count p q k : ℕ) → Bool
+can-splice count p q k = leb (p + q) count && (leb count 524289 && leb (count - q + k) 524289)
+
+unfoldable pub with-splice : (count p q : ℕ) → List ℕ → List ℕ → List ℕ
+with-splice count p q new m = with-entries (edited count p q new (entries-in m)) m
+
+-- the entries of pending lines from p on
+unfoldable pub pending-filled : ℕ → ℕ → List ℕ → List ℕ
+pending-filled p k m = with-entries (spliced p k (pending-entries k m) (entries-in m)) m
+
+abbrev pub can-put : (count p q k : ℕ) → Bool
+can-put count p q k = leb k 65536 && can-splice count p q k
+
+unfoldable pub pending-spliced : (count p q k : ℕ) → List ℕ → List ℕ
+pending-spliced count p q k m = pick (can-put count p q k) (with-splice count p q (pending-entries k m) m) m
+
+unfoldable pub nothing-spliced : (count p q : ℕ) → List ℕ → List ℕ
+nothing-spliced count p q m = pick (can-splice count p q 0) (with-splice count p q [] m) m
+
+abbrev pub can-copy : (count p q x y : ℕ) → Bool
+can-copy count p q x y = leb x y && (can-splice count p q (y - x) && or (leb y p) (leb (p + q) x && leb y count))
+
+unfoldable pub copied-spliced : (count p q x y : ℕ) → List ℕ → List ℕ
+copied-spliced count p q x y m = pick (can-copy count p q x y) (with-splice count p q (take (y - x) (drop x (entries-in m))) m) m

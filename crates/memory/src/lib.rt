@@ -11,6 +11,7 @@
 //! | 244,779 | 262,144 | not used |
 
 mod carrying;
+mod directory;
 mod job;
 mod kept;
 mod phase;
@@ -20,6 +21,15 @@ mod tapes;
 mod walking;
 
 pub use carrying::Carrying;
+pub use directory::Position;
+pub use directory::clear;
+pub use directory::entry;
+pub use directory::next_on;
+pub use directory::push_pending;
+pub use directory::set_entry;
+pub use directory::splice_copied;
+pub use directory::splice_nothing;
+pub use directory::splice_pending;
 pub use job::Job;
 pub use job::Lines;
 pub use kept::Kept;
