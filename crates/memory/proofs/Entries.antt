@@ -84,4 +84,4 @@ slots-with (w ∷ ws) (a ∷ b ∷ c ∷ xs) l h =
     let lc : entry c < 2 ^ 21 = omega arith in
     let r = slots-with ws xs (omega arith) (ap (drop 3) h) in
     λ i. (low-field (w / 2 ^ 63) (entry a) (entry b) (entry c) la lb lc ∙ ha) i ∷ (middle-field (w / 2 ^ 63) (entry a) (entry b) (entry c) la lb lc ∙ hb) i
-      ∷ (top-field (w / 2 ^ 63) (entry a) (entry b) (entry c) la lb lc ∙ hc) i ∷ r i
+    ∷ (top-field (w / 2 ^ 63) (entry a) (entry b) (entry c) la lb lc ∙ hc) i ∷ r i

@@ -2,5 +2,8 @@ pub mod Parted
 pub mod Entries
 pub mod Splicing
 pub mod Pending
+pub mod Weighing
+pub mod Filing
+pub mod Texting
 pub mod Storing
 pub mod Steadiness

@@ -17,7 +17,7 @@ use Rattle.commands.specs.Code.{when}
 use Rattle.lines.specs.Slots.{entry, slots, spares, with-slots}
 use Rattle.lines.specs.Moves.{spliced, copied, edited, Splices, Duplicates}
 use Rattle.lines.proofs.Packing.{length-slots}
-use Rattle.lines.proofs.Words.{words-are, with-spares, length-with} 
+use Rattle.lines.proofs.Words.{words-are, with-spares, length-with}
 use Rattle.lines.proofs.Words as words
 use Rattle.lines.proofs.Splices.{length-spliced, filled-none, filled-one, splice-is}
 use Rattle.memory.specs.Registers.{part, with-part}
@@ -57,10 +57,14 @@ copy-there : (c p q x y : ℕ) → can-copy c p q x y ≡ true → Duplicates 52
 copy-there c p q x y h =
     let a = and-parts (leb x y) (can-splice c p q (y - x) && or (leb y p) (leb (p + q) x && leb y c)) h in
     let b = and-parts (can-splice c p q (y - x)) (or (leb y p) (leb (p + q) x && leb y c)) (a .1) in
-    record { splices = can-there c p q (y - x) (b .0); ordered = leb-true _ _ (a .0);
-             apart = elim (or-true (leb y p) (leb (p + q) x && leb y c) (b .1)) [
-               inl e ↦ inl (leb-true _ _ e)
-             | inr e ↦ inr (let d = and-parts (leb (p + q) x) (leb y c) e in (leb-true _ _ (d .0), leb-true _ _ (d .1))) ] }
+    record {
+      splices = can-there c p q (y - x) (b .0);
+      ordered = leb-true _ _ (a .0);
+      apart = elim (or-true (leb y p) (leb (p + q) x && leb y c) (b .1)) [
+        | inl e ↦ inl (leb-true _ _ e)
+        | inr e ↦ inr (let d = and-parts (leb (p + q) x) (leb y c) e in (leb-true _ _ (d .0), leb-true _ _ (d .1)))
+      ];
+    }
 
 or-left : (a b : Bool) → a ≡ true → or a b ≡ true
 or-left true b h = refl
@@ -160,12 +164,12 @@ fill-one p i v m n w h g g₁ e ve se pe =
     let lx : length xs ≡ 524289 = length-spliced p i ys (entries-in m) (omega arith) ∙ omega arith in
     let wx : Whole xs = whole-spliced p i ys (entries-in m) (whole-high (take i (cells-in m))) (whole-slots (words-in m)) in
     let cell : getD n (4480 + i) 0 ≡ getD (cells-in m) i 0 =
-      sym (parted.getD-part 4480 65536 i 0 n g) ∙ ap (λ t. getD (cells-in t) i 0) e ∙ ap (λ t. getD t i 0) (cells-with m xs h lx wx) in
+    sym (parted.getD-part 4480 65536 i 0 n g) ∙ ap (λ t. getD (cells-in t) i 0) e ∙ ap (λ t. getD t i 0) (cells-with m xs h lx wx) in
     let val : entry v ≡ high (getD (cells-in m) i 0) = ap entry (ve ∙ ap (λ t. t / 256) cell) in
     let more : map high (take (i + 1) (cells-in m)) ≡ ys ++ entry v ∷ [] = map-more high (cells-in m) i 0 (omega arith) ∙ ap (λ t. ys ++ t ∷ []) (sym val) in
     let slots-are : slots w ≡ spliced p (i + 1) (map high (take (i + 1) (cells-in m))) (entries-in m) =
-      se ∙ ap (λ t. set (entries-in t) (p + i) (entry v)) e ∙ ap (λ t. set t (p + i) (entry v)) (entries-with m xs h lx wx)
-      ∙ filled-one p i (entry v) ys (entries-in m) ly (omega arith) ∙ ap (λ t. spliced p (i + 1) t (entries-in m)) (sym more) in
+    se ∙ ap (λ t. set (entries-in t) (p + i) (entry v)) e ∙ ap (λ t. set t (p + i) (entry v)) (entries-with m xs h lx wx)
+    ∙ filled-one p i (entry v) ys (entries-in m) ly (omega arith) ∙ ap (λ t. spliced p (i + 1) t (entries-in m)) (sym more) in
     ap (λ t. with-words t w) e ∙ with-again m xs h lx wx w
     ∙ entries-are m w _ slots-are (pe ∙ ap (λ t. spares (words-in t)) e ∙ spares-same m xs h lx wx)
 
@@ -176,6 +180,7 @@ room-can c p q k n m P h refused = by-cases (can-splice c p q k) refl
   where
     l : length (entries-in m) ≡ 524289
     l = entries-long m h
+
     by-cases : (b : Bool) → can-splice c p q k ≡ b → Splices 524289 c p q k
     by-cases true e = can-there c p q k e
     by-cases false e =
@@ -200,6 +205,7 @@ put-none c p q k m w h g done refused = by-cases (can-splice c p q k) refl
   where
     l : length (entries-in m) ≡ 524289
     l = entries-long m h
+
     by-cases : (b : Bool) → can-splice c p q k ≡ b → Left (can-put c p q k) (c - q + k) None (with-splice c p q (pending-entries k m) m) m (with-words m w)
     by-cases true e =
         let d = done (subst (λ n. Splices n c p q k) (sym l) (can-there c p q k e)) in
@@ -227,7 +233,8 @@ put-all c p q k n m w m₂ h g lw done s spare e =
     rw (put-can c p q k g s) record {
       count = d .0;
       memory = e
-        ∙ (λ i. with-words (with-words m w) (with-slots (ws i) (spliced p k (map high (take k (cs i))) (slots (ws i)))))
-        ∙ parted.with-twice 70016 174763 m w (omega arith) (with-slots w (spliced p k new (slots w))) lw
-        ∙ ap (λ t. with-words m (with-slots w t)) xs
-        ∙ ap (with-words m) (with-spares w (words-in m) (edited c p q new (entries-in m)) spare) }
+          ∙ (λ i. with-words (with-words m w) (with-slots (ws i) (spliced p k (map high (take k (cs i))) (slots (ws i)))))
+          ∙ parted.with-twice 70016 174763 m w (omega arith) (with-slots w (spliced p k new (slots w))) lw
+          ∙ ap (λ t. with-words m (with-slots w t)) xs
+          ∙ ap (with-words m) (with-spares w (words-in m) (edited c p q new (entries-in m)) spare);
+    }

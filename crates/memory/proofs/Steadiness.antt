@@ -92,7 +92,8 @@ kept-part a k m ys h q =
     record {
       long = let l : length ys ≡ k = q .long ∙ simp (length-take, length-drop) (omega arith) in simp (length-append, length-take, length-drop) (omega arith);
       small = λ s. let d = small-drop a m s in
-          small-append _ _ (small-take a m s) (small-append _ _ (q .small (small-take k (drop a m) d)) (small-drop k (drop a m) d)) }
+          small-append _ _ (small-take a m s) (small-append _ _ (q .small (small-take k (drop a m) d)) (small-drop k (drop a m) d));
+    }
 
 -- the registers keep it whatever they hold, since each is stored in 32 bits
 phase-small : (p : Phase) → phase-number p < 4294967296

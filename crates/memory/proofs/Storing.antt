@@ -121,52 +121,89 @@ lines-back lines.Joined = refl
 
 pub tapes-back : (t : Tapes) → Tame-tapes t → tapes-in (tapes-numbers t) ≡ t
 tapes-back t h = λ i. record {
-    room = twice (t .room) (h .room) i; active = below 2 (t .active) (lit< tt) (h .active) i; generation = twice (t .generation) (h .generation) i;
-    used = twice (t .used) (h .used) i; busy = flag-back (t .busy) i; other = twice (t .other) (h .other) i; cursor = twice (t .cursor) (h .cursor) i }
+  room = twice (t .room) (h .room) i;
+  active = below 2 (t .active) (lit< tt) (h .active) i;
+  generation = twice (t .generation) (h .generation) i;
+  used = twice (t .used) (h .used) i;
+  busy = flag-back (t .busy) i;
+  other = twice (t .other) (h .other) i;
+  cursor = twice (t .cursor) (h .cursor) i;
+}
 
 pub kept-back : (k : Kept) → Tame-kept k → kept-in (kept-numbers k) ≡ k
 kept-back k h = λ i. record {
-    entries = below 524290 (k .entries) (lit< tt) (omega (arith, h .entries)) i; pending = below 65537 (k .pending) (lit< tt) (omega (arith, h .pending)) i;
-    count = twice (k .count) (h .count) i; current = twice (k .current) (h .current) i; weight = twice (k .weight) (h .weight) i;
-    ring = below 65 (k .ring) (lit< tt) (omega (arith, h .ring)) i; files = below 65 (k .files) (lit< tt) (omega (arith, h .files)) i }
+  entries = below 524290 (k .entries) (lit< tt) (omega (arith, h .entries)) i;
+  pending = below 65537 (k .pending) (lit< tt) (omega (arith, h .pending)) i;
+  count = twice (k .count) (h .count) i;
+  current = twice (k .current) (h .current) i;
+  weight = twice (k .weight) (h .weight) i;
+  ring = below 65 (k .ring) (lit< tt) (omega (arith, h .ring)) i;
+  files = below 65 (k .files) (lit< tt) (omega (arith, h .files)) i;
+}
 
 pub plan-back : (p : Plan) → Tame-plan p → plan-in (plan-numbers p) ≡ p
 plan-back p h = λ i. record {
-    walk = walk-back (p .walk) i;
-    span = record { after = twice (p .span .after) (h .after) i; upto = twice (p .span .upto) (h .upto) i };
-    update = update-back (p .update) (h .update) i;
-    splice = record {
-      from = twice (p .splice .from) (h .from) i; gone = twice (p .splice .gone) (h .gone) i; source = source-back (p .splice .source) (h .source) i };
-    came = twice (p .came) (h .came) i; count = twice (p .count) (h .count) i; current = twice (p .current) (h .current) i;
-    rows = rows-back (p .rows) (h .rows) i }
+  walk = walk-back (p .walk) i;
+  span = record { after = twice (p .span .after) (h .after) i; upto = twice (p .span .upto) (h .upto) i };
+  update = update-back (p .update) (h .update) i;
+  splice = record {
+    from = twice (p .splice .from) (h .from) i;
+    gone = twice (p .splice .gone) (h .gone) i;
+    source = source-back (p .splice .source) (h .source) i;
+  };
+  came = twice (p .came) (h .came) i;
+  count = twice (p .count) (h .count) i;
+  current = twice (p .current) (h .current) i;
+  rows = rows-back (p .rows) (h .rows) i;
+}
 
 pub job-back : (j : Job) → Tame-job j → job-in (job-numbers j) ≡ j
 job-back j h = λ i. record {
-    plan = plan-back (j .plan) (h .plan) i; name = below 65 (j .name) (lit< tt) (omega (arith, h .name)) i; size = twice (j .size) (h .size) i;
-    lines = lines-back (j .lines) i; text = below 65537 (j .text) (lit< tt) (omega (arith, h .text)) i }
+  plan = plan-back (j .plan) (h .plan) i;
+  name = below 65 (j .name) (lit< tt) (omega (arith, h .name)) i;
+  size = twice (j .size) (h .size) i;
+  lines = lines-back (j .lines) i;
+  text = below 65537 (j .text) (lit< tt) (omega (arith, h .text)) i;
+}
 
 pub walking-back : (w : Walking) → Tame-walking w → walking-in (walking-numbers w) ≡ w
 walking-back w h = λ i. record {
-    line = twice (w .line) (h .line) i; part = twice (w .part) (h .part) i; went = twice (w .went) (h .went) i;
-    bytes = below 65537 (w .bytes) (lit< tt) (omega (arith, h .bytes)) i }
+  line = twice (w .line) (h .line) i;
+  part = twice (w .part) (h .part) i;
+  went = twice (w .went) (h .went) i;
+  bytes = below 65537 (w .bytes) (lit< tt) (omega (arith, h .bytes)) i;
+}
 
 pub putting-back : (p : Putting) → Tame-putting p → putting-in (putting-numbers p) ≡ p
 putting-back p h = λ i. record {
-    second = flag-back (p .second) i; more = flag-back (p .more) i; at = below 65537 (p .at) (lit< tt) (omega (arith, h .at)) i;
-    part = twice (p .part) (h .part) i }
+  second = flag-back (p .second) i;
+  more = flag-back (p .more) i;
+  at = below 65537 (p .at) (lit< tt) (omega (arith, h .at)) i;
+  part = twice (p .part) (h .part) i;
+}
 
 pub carrying-back : (c : Carrying) → Tame-carrying c → carrying-in (carrying-numbers c) ≡ c
 carrying-back c h = λ i. record {
-    index = twice (c .index) (h .index) i; part = twice (c .part) (h .part) i; long = twice (c .long) (h .long) i; start = twice (c .start) (h .start) i;
-    quota = twice (c .quota) (h .quota) i; waking = flag-back (c .waking) i }
+  index = twice (c .index) (h .index) i;
+  part = twice (c .part) (h .part) i;
+  long = twice (c .long) (h .long) i;
+  start = twice (c .start) (h .start) i;
+  quota = twice (c .quota) (h .quota) i;
+  waking = flag-back (c .waking) i;
+}
 
 -- what is stored is loaded
 pub load-store : (r : Registers) (m : List ℕ) → Tame r → loaded (stored r m) ≡ r
 unfolding loaded stored
 load-store r m t = λ i. record {
-    phase = phase-back (r .phase) i; tapes = tapes-back (r .tapes) (t .tapes) i; kept = kept-back (r .kept) (t .kept) i;
-    job = job-back (r .job) (t .job) i; walking = walking-back (r .walking) (t .walking) i; putting = putting-back (r .putting) (t .putting) i;
-    carrying = carrying-back (r .carrying) (t .carrying) i }
+  phase = phase-back (r .phase) i;
+  tapes = tapes-back (r .tapes) (t .tapes) i;
+  kept = kept-back (r .kept) (t .kept) i;
+  job = job-back (r .job) (t .job) i;
+  walking = walking-back (r .walking) (t .walking) i;
+  putting = putting-back (r .putting) (t .putting) i;
+  carrying = carrying-back (r .carrying) (t .carrying) i;
+}
 
 -- what is behind the registers is as it was
 pub behind-stored : (r : Registers) (m : List ℕ) (n : ℕ) → 48 ≤ n → drop n (stored r m) ≡ drop n m
@@ -192,13 +229,25 @@ tame-source k a b = by-test Tame-source (eqb k 1) source.Given _ tt (by-test Tam
 
 tame-plan : (s : List ℕ) → Tame-plan (plan-in s)
 tame-plan s = record {
-    after = omega arith; upto = omega arith; update = tame-update (getD s 3 0) (getD s 4 0); from = omega arith; gone = omega arith;
-    source = tame-source (getD s 7 0) (getD s 8 0) (getD s 9 0); came = omega arith; count = omega arith; current = omega arith;
-    rows = tame-rows (getD s 13 0) (getD s 14 0) }
+  after = omega arith;
+  upto = omega arith;
+  update = tame-update (getD s 3 0) (getD s 4 0);
+  from = omega arith;
+  gone = omega arith;
+  source = tame-source (getD s 7 0) (getD s 8 0) (getD s 9 0);
+  came = omega arith;
+  count = omega arith;
+  current = omega arith;
+  rows = tame-rows (getD s 13 0) (getD s 14 0);
+}
 
 pub tame-loaded : (m : List ℕ) → Tame (loaded m)
 unfolding loaded
 tame-loaded m = record {
-    tapes = omega arith; kept = omega arith;
-    job = record { plan = tame-plan (part 4 15 (part 15 19 m)); name = omega arith; size = omega arith; text = omega arith };
-    walking = omega arith; putting = omega arith; carrying = omega arith }
+  tapes = omega arith;
+  kept = omega arith;
+  job = record { plan = tame-plan (part 4 15 (part 15 19 m)); name = omega arith; size = omega arith; text = omega arith };
+  walking = omega arith;
+  putting = omega arith;
+  carrying = omega arith;
+}

@@ -22,8 +22,9 @@ use Rattle.memory.specs.declared.walking.Walking.{Walking}
 use Rattle.memory.specs.declared.walking.Putting.{Putting}
 use Rattle.memory.specs.declared.carrying.Carrying.{Carrying}
 use Rattle.memory.specs.declared.registers.Registers.{Registers}
+use Rattle.memory.specs.declared.small.File.{File}
 use Rattle.memory.specs.Numbers.{capped}
-use Rattle.memory.specs.Sections.{ring-in, files-in, name-in, cells-in, words-in, low, high}
+use Rattle.memory.specs.Sections.{ring-in, files-in, name-in, cells-in, words-in, low, high, newline}
 
 abbrev pub phase-as : Phase → engine.Phase
 phase-as Idle = engine.idle
@@ -70,13 +71,16 @@ pending-of n m = map pending-at (take n (cells-in m))
 unfoldable pub ring-of : ℕ → List ℕ → List ℕ
 ring-of n m = map capped (take n (ring-in m))
 
--- a file at the front of a part of the table
+-- the 67 numbers of a file
 abbrev pub file-at : List ℕ → Entry
 file-at s = entry (map low (take (getD s 0 0 % 65) (drop 3 s))) (capped (getD s 1 0)) (capped (getD s 2 0))
 
+abbrev pub file-head : List ℕ → File
+file-head s = record { name = getD s 0 0 % 65; lines = capped (getD s 1 0); size = capped (getD s 2 0) }
+
 unfoldable pub files-at : ℕ → List ℕ → List Entry
 files-at zero s = []
-files-at (suc n) s = file-at s ∷ files-at n (drop 67 s)
+files-at (suc n) s = file-at (take 67 s) ∷ files-at n (drop 67 s)
 
 abbrev pub files-of : ℕ → List ℕ → List Entry
 files-of n m = files-at n (files-in m)
@@ -108,6 +112,12 @@ lines-left Joined t = t ∷ []
 abbrev pub left-of : Bool → Lines → List ℕ → List (List ℕ)
 left-of more ls t = pick more (lines-left ls t) []
 
+-- where the first of them ends
+abbrev pub line-end : Lines → ℕ → List ℕ → ℕ
+line-end Nothing at t = at + length (drop at t)
+line-end Given at t = newline at (drop at t)
+line-end Joined at t = at + length (drop at t)
+
 abbrev pub job-of : Job → List ℕ → engine.Job
 job-of j m = record { plan = plan-as (j .plan); name = name-of (j .name) m; size = j .size; lines = job-lines (j .lines) (text-of (j .text) m) }
 
@@ -121,4 +131,4 @@ putting-as p j m = putting-of (p .second) (left-of (p .more) (j .lines) (drop (p
 unfoldable pub house-of : Registers → List ℕ → House
 house-of r m =
     house (phase-as (r .phase)) (tapes-as (r .tapes)) (store-of (r .kept) m) (job-of (r .job) m) (walking-as (r .walking) m) (putting-as (r .putting) (r .job) m)
-        (carrying-as (r .carrying))
+    (carrying-as (r .carrying))

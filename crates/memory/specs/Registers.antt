@@ -31,22 +31,39 @@ with-part a k m ys = take a m ++ (ys ++ drop k (drop a m))
 abbrev pub tapes-in : List ℕ → Tapes
 tapes-in s =
     record {
-      room = capped (getD s 0 0); active = getD s 1 0 % 2; generation = capped (getD s 2 0); used = capped (getD s 3 0); busy = eqb (getD s 4 0) 1;
-      other = capped (getD s 5 0); cursor = capped (getD s 6 0) }
+      room = capped (getD s 0 0);
+      active = getD s 1 0 % 2;
+      generation = capped (getD s 2 0);
+      used = capped (getD s 3 0);
+      busy = eqb (getD s 4 0) 1;
+      other = capped (getD s 5 0);
+      cursor = capped (getD s 6 0);
+    }
 
 abbrev pub kept-in : List ℕ → Kept
 kept-in s =
     record {
-      entries = getD s 0 0 % 524290; pending = getD s 1 0 % 65537; count = capped (getD s 2 0); current = capped (getD s 3 0);
-      weight = capped (getD s 4 0); ring = getD s 5 0 % 65; files = getD s 6 0 % 65 }
+      entries = getD s 0 0 % 524290;
+      pending = getD s 1 0 % 65537;
+      count = capped (getD s 2 0);
+      current = capped (getD s 3 0);
+      weight = capped (getD s 4 0);
+      ring = getD s 5 0 % 65;
+      files = getD s 6 0 % 65;
+    }
 
 abbrev pub plan-in : List ℕ → Plan
 plan-in s =
     record {
-      walk = walk-of (getD s 0 0); span = record { after = capped (getD s 1 0); upto = capped (getD s 2 0) };
+      walk = walk-of (getD s 0 0);
+      span = record { after = capped (getD s 1 0); upto = capped (getD s 2 0) };
       update = update-of (getD s 3 0) (getD s 4 0);
       splice = record { from = capped (getD s 5 0); gone = capped (getD s 6 0); source = source-of (getD s 7 0) (getD s 8 0) (getD s 9 0) };
-      came = capped (getD s 10 0); count = capped (getD s 11 0); current = capped (getD s 12 0); rows = rows-of (getD s 13 0) (getD s 14 0) }
+      came = capped (getD s 10 0);
+      count = capped (getD s 11 0);
+      current = capped (getD s 12 0);
+      rows = rows-of (getD s 13 0) (getD s 14 0);
+    }
 
 abbrev pub job-in : List ℕ → Job
 job-in s =
@@ -61,14 +78,25 @@ putting-in s = record { second = eqb (getD s 0 0) 1; more = eqb (getD s 1 0) 1; 
 abbrev pub carrying-in : List ℕ → Carrying
 carrying-in s =
     record {
-      index = capped (getD s 0 0); part = capped (getD s 1 0); long = capped (getD s 2 0); start = capped (getD s 3 0); quota = capped (getD s 4 0);
-      waking = eqb (getD s 5 0) 1 }
+      index = capped (getD s 0 0);
+      part = capped (getD s 1 0);
+      long = capped (getD s 2 0);
+      start = capped (getD s 3 0);
+      quota = capped (getD s 4 0);
+      waking = eqb (getD s 5 0) 1;
+    }
 
 unfoldable pub loaded : List ℕ → Registers
 loaded m =
     record {
-      phase = phase-of (getD m 0 0); tapes = tapes-in (part 1 7 m); kept = kept-in (part 8 7 m); job = job-in (part 15 19 m);
-      walking = walking-in (part 34 4 m); putting = putting-in (part 38 4 m); carrying = carrying-in (part 42 6 m) }
+      phase = phase-of (getD m 0 0);
+      tapes = tapes-in (part 1 7 m);
+      kept = kept-in (part 8 7 m);
+      job = job-in (part 15 19 m);
+      walking = walking-in (part 34 4 m);
+      putting = putting-in (part 38 4 m);
+      carrying = carrying-in (part 42 6 m);
+    }
 
 -- STORING
 abbrev pub tapes-numbers : Tapes → List ℕ

@@ -125,3 +125,47 @@ can-copy count p q x y = leb x y && (can-splice count p q (y - x) && or (leb y p
 
 unfoldable pub copied-spliced : (count p q x y : ℕ) → List ℕ → List ℕ
 copied-spliced count p q x y m = pick (can-copy count p q x y) (with-splice count p q (take (y - x) (drop x (entries-in m))) m) m
+
+-- THE RING: n weights, the oldest first; a 65th drops the oldest
+abbrev pub ring-count : ℕ → ℕ
+ring-count n = pick (ltb n 64) (n + 1) 64
+
+abbrev pub ring-pushed : ℕ → ℕ → List ℕ → List ℕ
+ring-pushed n w s = pick (ltb n 64) (set s n (capped w)) (drop 1 s ++ capped w ∷ [])
+
+unfoldable pub with-weight : ℕ → ℕ → List ℕ → List ℕ
+with-weight n w m = with-ring m (ring-pushed n w (ring-in m))
+
+-- NAMES: bytes over the front of a section
+abbrev pub over : List ℕ → List ℕ → List ℕ
+over bs s = map low bs ++ drop (length bs) s
+
+-- the name that a command has; one that is too long is not kept
+unfoldable pub name-kept : List ℕ → List ℕ → List ℕ
+name-kept bs m = pick (leb (length bs) 64) (with-name m (over bs (name-in m))) m
+
+-- FILES: the length of a name, lines, their weight, the name
+abbrev pub file-numbers : List ℕ → ℕ → ℕ → List ℕ → List ℕ
+file-numbers bs lines size old = length bs ∷ capped lines ∷ capped size ∷ over bs (drop 3 old)
+
+unfoldable pub with-file : ℕ → List ℕ → ℕ → ℕ → List ℕ → List ℕ
+with-file i bs lines size m = with-files m (with-part (67 * i) 67 (files-in m) (file-numbers bs lines size (part (67 * i) 67 (files-in m))))
+
+-- a file past the last is a new one
+abbrev pub can-file : (files i name : ℕ) → Bool
+can-file files i name = ltb (lesser i files) 64 && leb name 64
+
+abbrev pub file-count : ℕ → ℕ → ℕ
+file-count files i = pick (ltb i files) files (files + 1)
+
+unfoldable pub file-set : (files i : ℕ) → List ℕ → ℕ → ℕ → List ℕ → List ℕ
+file-set files i bs lines size m = pick (can-file files i (length bs)) (with-file (lesser i files) bs lines size m) m
+
+-- TEXT: bytes from a cell on; too many change nothing
+unfoldable pub extended : ℕ → List ℕ → List ℕ → List ℕ
+extended at bs m = pick (leb (at + length bs) 65536) (with-cells m (take at (cells-in m) ++ laid-low bs (drop at (cells-in m)))) m
+
+-- where a line ends: at the next byte 10, or behind the last byte
+unfoldable pub newline : ℕ → List ℕ → ℕ
+newline k [] = k
+newline k (b ∷ bs) = pick (eqb b 10) k (newline (suc k) bs)

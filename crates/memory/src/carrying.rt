@@ -40,13 +40,15 @@ impl Carrying {
         requires { ⌜ length (now section) ≡ 6 ⌝ }
         ensures { λ _. ⌜ now (section .exit) ≡ numbers self ⌝ }
     {
-        section.copy_from_slice(&[
-            self.index % LIMIT,
-            self.part % LIMIT,
-            self.long % LIMIT,
-            self.start % LIMIT,
-            self.quota % LIMIT,
-            u64::from(self.waking),
-        ]);
+        section.copy_from_slice(
+            &[
+                self.index % LIMIT,
+                self.part % LIMIT,
+                self.long % LIMIT,
+                self.start % LIMIT,
+                self.quota % LIMIT,
+                u64::from(self.waking),
+            ],
+        );
     }
 }

@@ -50,10 +50,7 @@ pub fn entry(memory: &[u64], entries: u64, i: u64) -> Position
     ensures { λ r. ⌜ r ≡ entry-at entries i (now (memory .entry)) ⌝ }
 {
     if i < entries {
-        Position::from_entry(lines::get(
-            &memory[DIRECTORY..DIRECTORY + WORDS],
-            i as usize,
-        ))
+        Position::from_entry(lines::get(&memory[DIRECTORY..DIRECTORY + WORDS], i as usize))
     } else {
         Position { tape: 0, at: 0 }
     }
@@ -124,17 +121,19 @@ fn fill_pending(memory: &mut [u64], p: usize, k: usize)
 {
     for i in 0..k {
         let entry = memory[CELLS + i] / BYTE;
-        lines::set(
-            &mut memory[DIRECTORY..DIRECTORY + WORDS],
-            p + i,
-            entry,
-        );
+        lines::set(&mut memory[DIRECTORY..DIRECTORY + WORDS], p + i, entry);
     }
 }
 
 /// In place of `gone` entries from `from` on, of `entries`: those of the first `pending` pending lines. Says how many entries there are then,
 /// or None where it can't be done, and then nothing is changed.
-pub fn splice_pending(memory: &mut [u64], entries: u64, from: u64, gone: u64, pending: u64) -> Option<u64>
+pub fn splice_pending(
+    memory: &mut [u64],
+    entries: u64,
+    from: u64,
+    gone: u64,
+    pending: u64,
+) -> Option<u64>
     requires { ⌜ length (now memory) ≡ 262144 ⌝ }
     ensures count { λ r. ⌜ r ≡ when (can-put entries from gone pending) (entries - gone + pending) ⌝ }
     ensures memory { λ _. ⌜ now (memory .exit) ≡ pending-spliced entries from gone pending (now (memory .entry)) ⌝ }
@@ -174,7 +173,14 @@ pub fn splice_nothing(memory: &mut [u64], entries: u64, from: u64, gone: u64) ->
 }
 
 /// The same, with the entries from `x` up to `y` once more, which lie before those that go or behind them.
-pub fn splice_copied(memory: &mut [u64], entries: u64, from: u64, gone: u64, x: u64, y: u64) -> Option<u64>
+pub fn splice_copied(
+    memory: &mut [u64],
+    entries: u64,
+    from: u64,
+    gone: u64,
+    x: u64,
+    y: u64,
+) -> Option<u64>
     requires { ⌜ length (now memory) ≡ 262144 ⌝ }
     ensures count { λ r. ⌜ r ≡ when (can-copy entries from gone x y) (entries - gone + (y - x)) ⌝ }
     ensures memory { λ _. ⌜ now (memory .exit) ≡ copied-spliced entries from gone x y (now (memory .entry)) ⌝ }

@@ -72,12 +72,14 @@ impl Job {
         requires { ⌜ length (now section) ≡ 19 ⌝ }
         ensures { λ _. ⌜ now (section .exit) ≡ numbers self ⌝ }
     {
-        section[0..4].copy_from_slice(&[
-            self.name % LIMIT,
-            self.size % LIMIT,
-            self.lines.number(),
-            self.text % LIMIT,
-        ]);
+        section[0..4].copy_from_slice(
+            &[
+                self.name % LIMIT,
+                self.size % LIMIT,
+                self.lines.number(),
+                self.text % LIMIT,
+            ],
+        );
         plans::store(self.plan, &mut section[4..19]);
     }
 }

@@ -44,14 +44,16 @@ impl Kept {
         requires { ⌜ length (now section) ≡ 7 ⌝ }
         ensures { λ _. ⌜ now (section .exit) ≡ numbers self ⌝ }
     {
-        section.copy_from_slice(&[
-            self.entries % LIMIT,
-            self.pending % LIMIT,
-            self.count % LIMIT,
-            self.current % LIMIT,
-            self.weight % LIMIT,
-            self.ring % LIMIT,
-            self.files % LIMIT,
-        ]);
+        section.copy_from_slice(
+            &[
+                self.entries % LIMIT,
+                self.pending % LIMIT,
+                self.count % LIMIT,
+                self.current % LIMIT,
+                self.weight % LIMIT,
+                self.ring % LIMIT,
+                self.files % LIMIT,
+            ],
+        );
     }
 }

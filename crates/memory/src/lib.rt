@@ -17,7 +17,9 @@ mod kept;
 mod phase;
 mod plans;
 mod registers;
+mod small;
 mod tapes;
+mod text;
 mod walking;
 
 pub use carrying::Carrying;
@@ -35,7 +37,25 @@ pub use job::Lines;
 pub use kept::Kept;
 pub use phase::Phase;
 pub use registers::Registers;
+pub use small::File;
+pub use small::file_at;
+pub use small::file_lines;
+pub use small::file_name;
+pub use small::file_weight;
+pub use small::find_file;
+pub use small::keep_name;
+pub use small::kept_name;
+pub use small::oldest;
+pub use small::push_weight;
+pub use small::ring_weight;
+pub use small::set_file;
+pub use small::total_weight;
 pub use tapes::Tapes;
+pub use text::copy_out;
+pub use text::extend;
+pub use text::keep;
+pub use text::line_end;
+pub use text::text_cells;
 pub use walking::Putting;
 pub use walking::Walking;
 
@@ -43,19 +63,25 @@ pub use walking::Walking;
 pub const MEMORY: usize = 262_144;
 /// Where the ring begins, and how many weights it has room for.
 const RING: usize = 64;
+
 const WEIGHTS: usize = 64;
 /// Where the table of files begins, how many it has room for, how many numbers each takes, and how many bytes a name has at most.
 const FILES: usize = 128;
+
 const TABLE: usize = 64;
+
 const FILE: usize = 67;
+
 const NAMES: usize = 64;
 /// Where the name is that a command has.
 const NAME: usize = 4_416;
 /// Where the cells begin, and how many there are.
 const CELLS: usize = 4_480;
+
 const TEXT: usize = 65_536;
 /// Where the directory begins, and how many numbers it takes.
 const DIRECTORY: usize = 70_016;
+
 const WORDS: usize = 174_763;
 
 /// A register holds 32 bits, so that no sum of two overflows, whatever the memory held.

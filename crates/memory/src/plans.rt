@@ -133,21 +133,23 @@ pub fn store(plan: Plan, section: &mut [u64])
     let (update, place) = update_numbers(plan.update);
     let (source, from, to) = source_numbers(plan.splice.source);
     let (rows, value) = rows_numbers(plan.rows);
-    section.copy_from_slice(&[
-        walk_number(plan.walk),
-        plan.span.after % LIMIT,
-        plan.span.upto % LIMIT,
-        update,
-        place,
-        plan.splice.from % LIMIT,
-        plan.splice.gone % LIMIT,
-        source,
-        from,
-        to,
-        plan.came % LIMIT,
-        plan.count % LIMIT,
-        plan.current % LIMIT,
-        rows,
-        value,
-    ]);
+    section.copy_from_slice(
+        &[
+            walk_number(plan.walk),
+            plan.span.after % LIMIT,
+            plan.span.upto % LIMIT,
+            update,
+            place,
+            plan.splice.from % LIMIT,
+            plan.splice.gone % LIMIT,
+            source,
+            from,
+            to,
+            plan.came % LIMIT,
+            plan.count % LIMIT,
+            plan.current % LIMIT,
+            rows,
+            value,
+        ],
+    );
 }

@@ -43,14 +43,16 @@ impl Tapes {
         requires { ⌜ length (now section) ≡ 7 ⌝ }
         ensures { λ _. ⌜ now (section .exit) ≡ numbers self ⌝ }
     {
-        section.copy_from_slice(&[
-            self.room % LIMIT,
-            self.active % LIMIT,
-            self.generation % LIMIT,
-            self.used % LIMIT,
-            u64::from(self.busy),
-            self.other % LIMIT,
-            self.cursor % LIMIT,
-        ]);
+        section.copy_from_slice(
+            &[
+                self.room % LIMIT,
+                self.active % LIMIT,
+                self.generation % LIMIT,
+                self.used % LIMIT,
+                u64::from(self.busy),
+                self.other % LIMIT,
+                self.cursor % LIMIT,
+            ],
+        );
     }
 }

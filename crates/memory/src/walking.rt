@@ -35,12 +35,14 @@ impl Walking {
         requires { ⌜ length (now section) ≡ 4 ⌝ }
         ensures { λ _. ⌜ now (section .exit) ≡ steps self ⌝ }
     {
-        section.copy_from_slice(&[
-            self.line % LIMIT,
-            self.part % LIMIT,
-            self.went % LIMIT,
-            self.bytes % LIMIT,
-        ]);
+        section.copy_from_slice(
+            &[
+                self.line % LIMIT,
+                self.part % LIMIT,
+                self.went % LIMIT,
+                self.bytes % LIMIT,
+            ],
+        );
     }
 }
 
@@ -73,11 +75,13 @@ impl Putting {
         requires { ⌜ length (now section) ≡ 4 ⌝ }
         ensures { λ _. ⌜ now (section .exit) ≡ numbers self ⌝ }
     {
-        section.copy_from_slice(&[
-            u64::from(self.second),
-            u64::from(self.more),
-            self.at % LIMIT,
-            self.part % LIMIT,
-        ]);
+        section.copy_from_slice(
+            &[
+                u64::from(self.second),
+                u64::from(self.more),
+                self.at % LIMIT,
+                self.part % LIMIT,
+            ],
+        );
     }
 }

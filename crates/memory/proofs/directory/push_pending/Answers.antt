@@ -9,12 +9,14 @@ use Rattle.memory.proofs.directory.push_pending.Needs as need
 
 pub returns-then-j : need.returns-then-j
 returns-then-j c = record {
-    done = sym (le-ltb (c .args .j) 65536 (c .if-j .taken));
-    memory = sym (pending-past (c .args .j) (c .args .position) (c .args .memory .now) (c .pre) (c .if-j .taken)) }
+  done = sym (le-ltb (c .args .j) 65536 (c .if-j .taken));
+  memory = sym (pending-past (c .args .j) (c .args .position) (c .args .memory .now) (c .pre) (c .if-j .taken));
+}
 
 pub returns : need.returns
 unfolding with-pending
 returns c = record {
-    done = sym (lt-ltb (c .args .j) 65536 (c .if-j .left));
-    memory = ap (with-cells (c .args .memory .now)) (c .put-above .ensures
-      ∙ ap (λ e. set (cells-in (c .args .memory .now)) (c .args .j) (with-high (getD (cells-in (c .args .memory .now)) (c .args .j) 0) e)) (c .entry .ensures)) }
+  done = sym (lt-ltb (c .args .j) 65536 (c .if-j .left));
+  memory = ap (with-cells (c .args .memory .now)) (c .put-above .ensures
+      ∙ ap (λ e. set (cells-in (c .args .memory .now)) (c .args .j) (with-high (getD (cells-in (c .args .memory .now)) (c .args .j) 0) e)) (c .entry .ensures));
+}

@@ -13,7 +13,7 @@ returns-in-Some c =
     let m = c .args .memory .now in
     let e = c .in-Some .ensures tt in
     let r = copy-left (c .args .entries) (c .args .from) (c .args .gone) (c .args .x) (c .args .y) (Some (c .in-Some .count)) m (c .duplicate .last .dir) _
-      (with-splice (c .args .entries) (c .args .from) (c .args .gone) (take (c .args .y - c .args .x) (drop (c .args .x) (entries-in m))) m) (c .pre) (e .done) (e .refused) (e .spare) refl in
+    (with-splice (c .args .entries) (c .args .from) (c .args .gone) (take (c .args .y - c .args .x) (drop (c .args .x) (entries-in m))) m) (c .pre) (e .done) (e .refused) (e .spare) refl in
     record { count = r .count; memory = r .memory }
 
 pub returns-in-None : need.returns-in-None
@@ -22,5 +22,5 @@ returns-in-None c =
     let m = c .args .memory .now in
     let e = c .in-None .ensures tt in
     let r = copy-left (c .args .entries) (c .args .from) (c .args .gone) (c .args .x) (c .args .y) None m (c .duplicate .last .dir) _
-      (with-splice (c .args .entries) (c .args .from) (c .args .gone) (take (c .args .y - c .args .x) (drop (c .args .x) (entries-in m))) m) (c .pre) (e .done) (e .refused) (e .spare) refl in
+    (with-splice (c .args .entries) (c .args .from) (c .args .gone) (take (c .args .y - c .args .x) (drop (c .args .x) (entries-in m))) m) (c .pre) (e .done) (e .refused) (e .spare) refl in
     record { count = r .count; memory = r .memory }

@@ -11,7 +11,7 @@ returns-in-Some c =
     let m = c .args .memory .now in
     let e = c .in-Some .ensures tt in
     let r = splice-left (c .args .entries) (c .args .from) (c .args .gone) 0 (Some (c .in-Some .count)) m (c .splice .last .dir) _
-      (with-splice (c .args .entries) (c .args .from) (c .args .gone) [] m) (c .pre) (e .done) (e .refused) (e .spare) refl in
+    (with-splice (c .args .entries) (c .args .from) (c .args .gone) [] m) (c .pre) (e .done) (e .refused) (e .spare) refl in
     record { count = r .count; memory = r .memory }
 
 pub returns-in-None : need.returns-in-None
@@ -20,5 +20,5 @@ returns-in-None c =
     let m = c .args .memory .now in
     let e = c .in-None .ensures tt in
     let r = splice-left (c .args .entries) (c .args .from) (c .args .gone) 0 None m (c .splice .last .dir) _
-      (with-splice (c .args .entries) (c .args .from) (c .args .gone) [] m) (c .pre) (e .done) (e .refused) (e .spare) refl in
+    (with-splice (c .args .entries) (c .args .from) (c .args .gone) [] m) (c .pre) (e .done) (e .refused) (e .spare) refl in
     record { count = r .count; memory = r .memory }

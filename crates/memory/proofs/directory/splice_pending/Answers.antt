@@ -17,7 +17,7 @@ unfolding pending-spliced
 returns-in-rest c =
     let e = c .in-rest .ensures tt in
     let r = put-none (c .args .entries) (c .args .from) (c .args .gone) (c .args .pending) (c .args .memory .now) (c .make-room .last .dir) (c .pre) (c .if-pending .left)
-      (e .done) (e .refused) in
+    (e .done) (e .refused) in
     record { count = r .count; memory = r .memory }
 
 pub fill-pending-requires : need.fill-pending-requires
@@ -34,5 +34,5 @@ returns c =
     let s = room-can (c .args .entries) (c .args .from) (c .args .gone) (c .args .pending) (c .in-Some .count) (c .args .memory .now) _ (c .pre) (e .refused) in
     let l : length (c .make-room .last .dir) ≡ 174763 = c .make-room .kept .dir ∙ words-long (c .args .memory .now) (c .pre) in
     let r = put-all (c .args .entries) (c .args .from) (c .args .gone) (c .args .pending) (c .in-Some .count) (c .args .memory .now) (c .make-room .last .dir)
-      (c .fill-pending .last .memory) (c .pre) (c .if-pending .left) l (e .done) s (e .spare) (c .fill-pending .ensures) in
+    (c .fill-pending .last .memory) (c .pre) (c .if-pending .left) l (e .done) s (e .spare) (c .fill-pending .ensures) in
     record { count = r .count; memory = r .memory }
