@@ -43,12 +43,10 @@ fn completed(front: &[u8], ending: &[u8], scratch: &mut Vec<u8>) -> Result<bool,
 fn slashed(front: &[u8], scratch: &mut Vec<u8>) -> Result<bool, AllocError>
     ensures { λ r. ⌜ made r (λ b. b ≡ one-of slashes (now (front .entry))) ⌝ }
 {
-    Ok(
-        completed(front, b"", scratch)?
-            || completed(front, b"/", scratch)?
-            || completed(front, b"//", scratch)?
-            || completed(front, b"///", scratch)?,
-    )
+    Ok(completed(front, b"", scratch)?
+        || completed(front, b"/", scratch)?
+        || completed(front, b"//", scratch)?
+        || completed(front, b"///", scratch)?)
 }
 
 /// Whether question marks do.
@@ -62,11 +60,7 @@ fn questioned(front: &[u8], scratch: &mut Vec<u8>) -> Result<bool, AllocError>
 fn lettered(front: &[u8], scratch: &mut Vec<u8>) -> Result<bool, AllocError>
     ensures { λ r. ⌜ made r (λ b. b ≡ one-of letters (now (front .entry))) ⌝ }
 {
-    Ok(
-        completed(front, b"a", scratch)?
-            || completed(front, b" a", scratch)?
-            || completed(front, b"1", scratch)?,
-    )
+    Ok(completed(front, b"a", scratch)? || completed(front, b" a", scratch)? || completed(front, b"1", scratch)?)
 }
 
 /// Whether a command begins with these bytes: if one does, one of these endings makes it whole.

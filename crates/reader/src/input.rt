@@ -2,9 +2,9 @@
 use std::alloc::Global;
 use std::io;
 use std::io::BufRead;
+use typed::read;
 use typed::Command;
 use typed::Deed;
-use typed::read;
 
 /// The next line without its newline; false at the end of the input.
 fn next_line(input: &mut impl BufRead, line: &mut Vec<u8>) -> io::Result<bool> {

@@ -167,29 +167,15 @@ impl fmt::Display for Done<'_> as DoneDisplay {
             Deed::Print => f.write_str("shown"),
             Deed::Number => f.write_str("shown with numbers"),
             Deed::LineNumber => f.write_str("its number shown"),
-            Deed::Substitute {
-                pattern,
-                with,
-                which,
-            } => {
-                write!(
-                    f,
-                    "{} of {} replaced by \"{}\"",
-                    Matches(which),
-                    Pattern(pattern),
-                    Quoted(with)
-                )
+            Deed::Substitute { pattern, with, which } => {
+                write!(f, "{} of {} replaced by \"{}\"", Matches(which), Pattern(pattern), Quoted(with))
             },
             Deed::GoTo => f.write_str("made the current line and shown"),
             Deed::Undo => f.write_str("the last change taken back"),
             Deed::Redo => f.write_str("what was taken back last done again"),
             Deed::Write(name) => write!(f, "written to the file \"{}\"", Quoted(name)),
             Deed::Edit(name) => write!(f, "the text replaced by the file \"{}\"", Quoted(name)),
-            Deed::Read(name) => write!(
-                f,
-                "with the lines of the file \"{}\" put after it",
-                Quoted(name)
-            ),
+            Deed::Read(name) => write!(f, "with the lines of the file \"{}\" put after it", Quoted(name)),
             Deed::Files => f.write_str("the files listed"),
         }
     }
@@ -225,10 +211,7 @@ impl fmt::Display for Sentence<'_> as SentenceDisplay {
         let deed = self.simple.deed;
         let done = Done(deed);
         if takes_range(&deed) {
-            let extent = Extent {
-                range,
-                otherwise: otherwise(&deed, self.each),
-            };
+            let extent = Extent { range, otherwise: otherwise(&deed, self.each) };
             return write!(f, "{extent}, {done}");
         }
         write!(f, "{done}")?;
@@ -246,31 +229,12 @@ pub struct Reading<'a>(pub Command<'a>);
 pub impl fmt::Display for Reading<'_> as ReadingDisplay {
     fn fmt<W: fmt::Write>(&self, f: &mut fmt::Formatter<W>) -> fmt::Result {
         match self.0 {
-            Command::Plain(simple) => write!(
-                f,
-                "{}",
-                Sentence {
-                    simple,
-                    each: false
-                }
-            ),
-            Command::Global {
-                range,
-                matching,
-                pattern,
-                simple,
-            } => {
-                let extent = Extent {
-                    range,
-                    otherwise: "all lines",
-                };
+            Command::Plain(simple) => write!(f, "{}", Sentence { simple, each: false }),
+            Command::Global { range, matching, pattern, simple } => {
+                let extent = Extent { range, otherwise: "all lines" };
                 let having = if matching { "with" } else { "without" };
                 let simple = Sentence { simple, each: true };
-                write!(
-                    f,
-                    "{extent}, for each {having} {}: {simple}",
-                    Pattern(pattern)
-                )
+                write!(f, "{extent}, for each {having} {}: {simple}", Pattern(pattern))
             }
         }
     }
