@@ -5,5 +5,6 @@ pub mod Pending
 pub mod Weighing
 pub mod Filing
 pub mod Texting
+pub mod Committing
 pub mod Storing
 pub mod Steadiness

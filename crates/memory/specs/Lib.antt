@@ -2,3 +2,4 @@ pub mod Numbers
 pub mod Registers
 pub mod Sections
 pub mod Abstract
+pub mod Commit

@@ -11,6 +11,7 @@
 //! | 244,779 | 262,144 | not used |
 
 mod carrying;
+mod commit;
 mod directory;
 mod job;
 mod kept;
@@ -23,6 +24,7 @@ mod text;
 mod walking;
 
 pub use carrying::Carrying;
+pub use commit::apply;
 pub use directory::Position;
 pub use directory::clear;
 pub use directory::entry;
