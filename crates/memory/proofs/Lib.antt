@@ -6,5 +6,8 @@ pub mod Weighing
 pub mod Filing
 pub mod Texting
 pub mod Committing
+pub mod Frames
+pub mod Positions
+pub mod Applying
 pub mod Storing
 pub mod Steadiness

@@ -44,16 +44,16 @@ unfolding with-entries
 same-entries m = ap (with-words m) (words.with-own (words-in m)) ∙ parted.with-own 70016 174763 m
 
 -- CAN IT BE DONE
-can-there : (c p q k : ℕ) → can-splice c p q k ≡ true → Splices 524289 c p q k
+pub can-there : (c p q k : ℕ) → can-splice c p q k ≡ true → Splices 524289 c p q k
 can-there c p q k h =
     let a = and-parts (leb (p + q) c) (leb c 524289 && leb (c - q + k) 524289) h in
     let b = and-parts (leb c 524289) (leb (c - q + k) 524289) (a .1) in
     record { there = leb-true _ _ (a .0); held = leb-true _ _ (b .0); fits = leb-true _ _ (b .1) }
 
-there-can : (c p q k : ℕ) → Splices 524289 c p q k → can-splice c p q k ≡ true
+pub there-can : (c p q k : ℕ) → Splices 524289 c p q k → can-splice c p q k ≡ true
 there-can c p q k s = and-from _ _ (le-leb _ _ (s .there)) (and-from _ _ (le-leb _ _ (s .held)) (le-leb _ _ (s .fits)))
 
-copy-there : (c p q x y : ℕ) → can-copy c p q x y ≡ true → Duplicates 524289 c p q x y
+pub copy-there : (c p q x y : ℕ) → can-copy c p q x y ≡ true → Duplicates 524289 c p q x y
 copy-there c p q x y h =
     let a = and-parts (leb x y) (can-splice c p q (y - x) && or (leb y p) (leb (p + q) x && leb y c)) h in
     let b = and-parts (can-splice c p q (y - x)) (or (leb y p) (leb (p + q) x && leb y c)) (a .1) in
@@ -74,7 +74,7 @@ or-right : (a b : Bool) → b ≡ true → or a b ≡ true
 or-right true b h = refl
 or-right false b h = h
 
-there-copy : (c p q x y : ℕ) → Duplicates 524289 c p q x y → can-copy c p q x y ≡ true
+pub there-copy : (c p q x y : ℕ) → Duplicates 524289 c p q x y → can-copy c p q x y ≡ true
 there-copy c p q x y s =
     and-from _ _ (le-leb _ _ (s .ordered)) (and-from _ _ (there-can c p q (y - x) (s .splices))
     (elim (s .apart) [ inl h ↦ or-left (leb y p) _ (le-leb _ _ h) | inr h ↦ or-right (leb y p) _ (and-from _ _ (le-leb _ _ (h .0)) (le-leb _ _ (h .1))) ]))
