@@ -9,5 +9,7 @@ pub mod Committing
 pub mod Frames
 pub mod Positions
 pub mod Applying
+pub mod Noting
 pub mod Storing
+pub mod Keeping
 pub mod Steadiness
