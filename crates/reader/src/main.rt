@@ -6,8 +6,8 @@ mod input;
 mod quoted;
 mod words;
 
-use failure::why_not;
 use failure::FailureDisplay;
+use failure::why_not;
 use input::next_typed;
 use quoted::Quoted;
 use quoted::QuotedDisplay;
