@@ -87,114 +87,161 @@ module _ (w : Plain) (k : Kept) (h : Held w k) where
     unfolding deed-work decide-deed lines-given name-given too-long walk-rows more-rows updated-by turn.put-lines
     append-ends ls g f =
         pick-alike (Ends true (append ls)) (short-all ls) (short-all ls) _ _ _ _ refl
-          (λ e. pick-alike (Ends true (append ls)) (leb (b .last) (how-many (w .now))) (leb (b .last) (length (k .text))) _ _ _ _ (last-same (b .last))
-            (λ t. (let q = leb-true (b .last) (how-many (w .now)) t in record { same = record { reply = refl; shows = refl; next =
-              text-held w k h _ (b .last) (b .last) (b .last + length ls) ls (omega arith) q (fit-from ls e g) (omega arith)
-                (record { lines = refl; current = refl; before = refl; undone = refl; files = refl; next = refl }) } }))
-            (λ t. record { same = no-alike 4 }))
-          (λ e. record { same = no-alike 7 })
+        (λ e. pick-alike (Ends true (append ls)) (leb (b .last) (how-many (w .now))) (leb (b .last) (length (k .text))) _ _ _ _ (last-same (b .last))
+        (λ t. (let q = leb-true (b .last) (how-many (w .now)) t in record {
+          same = record {
+            reply = refl;
+            shows = refl;
+            next =
+                text-held w k h _ (b .last) (b .last) (b .last + length ls) ls (omega arith) q (fit-from ls e g) (omega arith)
+                (record { lines = refl; current = refl; before = refl; undone = refl; files = refl; next = refl });
+          };
+        }))
+        (λ t. record { same = no-alike 4 }))
+        (λ e. record { same = no-alike 7 })
 
     pub insert-ends : (ls : List (List ℕ)) → every all-bytes ls ≡ true → Deed-ends true (insert ls)
     unfolding deed-work decide-deed lines-given name-given too-long walk-rows more-rows updated-by turn.put-lines
     insert-ends ls g f =
         pick-alike (Ends true (insert ls)) (short-all ls) (short-all ls) _ _ _ _ refl
-          (λ e. pick-alike (Ends true (insert ls)) (leb (b .last) (how-many (w .now))) (leb (b .last) (length (k .text))) _ _ _ _ (last-same (b .last))
-            (λ t. (let q = leb-true (b .last) (how-many (w .now)) t in
-              let c : pick (none-of ls) (b .last) (b .last - 1 + length ls) ≡ pick (eqb (length ls) 0) (b .last) (b .last - 1 + length ls) = ap (λ z. pick z (b .last) (b .last - 1 + length ls)) (none-eqb ls) in
-              record { same = record { reply = refl; shows = refl; next =
+        (λ e. pick-alike (Ends true (insert ls)) (leb (b .last) (how-many (w .now))) (leb (b .last) (length (k .text))) _ _ _ _ (last-same (b .last))
+        (λ t. (let q = leb-true (b .last) (how-many (w .now)) t in
+        let c : pick (none-of ls) (b .last) (b .last - 1 + length ls) ≡ pick (eqb (length ls) 0) (b .last) (b .last - 1 + length ls) = ap (λ z. pick z (b .last) (b .last - 1 + length ls)) (none-eqb ls) in
+        record {
+          same = record {
+            reply = refl;
+            shows = refl;
+            next =
                 text-held w k h _ (b .last - 1) (b .last - 1) (pick (eqb (length ls) 0) (b .last) (b .last - 1 + length ls)) ls (omega arith) (omega arith) (fit-from ls e g)
-                  (subst (λ z. z ≤ b .last - 1 + length ls + (how-many (w .now) - (b .last - 1))) c (at-insert ls (b .last) (how-many (w .now)) q))
-                  (record { lines = refl; current = c; before = refl; undone = refl; files = refl; next = refl }) } }))
-            (λ t. record { same = no-alike 4 }))
-          (λ e. record { same = no-alike 7 })
+                (subst (λ z. z ≤ b .last - 1 + length ls + (how-many (w .now) - (b .last - 1))) c (at-insert ls (b .last) (how-many (w .now)) q))
+                (record { lines = refl; current = c; before = refl; undone = refl; files = refl; next = refl });
+          };
+        }))
+        (λ t. record { same = no-alike 4 }))
+        (λ e. record { same = no-alike 7 })
 
     pub change-ends : (ls : List (List ℕ)) → every all-bytes ls ≡ true → Deed-ends true (change ls)
     unfolding deed-work decide-deed lines-given name-given too-long walk-rows more-rows updated-by turn.put-lines
     change-ends ls g f =
         pick-alike (Ends true (change ls)) (short-all ls) (short-all ls) _ _ _ _ refl
-          (λ e. pick-alike (Ends true (change ls)) (real (w .now) (both-of (b .first) (b .last) (w .pattern))) (there (length (k .text)) b) _ _ _ _ (there-same b (w .pattern))
-            (λ t. (let r = real-from (w .now) (both-of (b .first) (b .last) (w .pattern)) t in
-              let c : pick (none-of ls) (after-gone (b .first) (how-many (w .now) - (suc (b .last) - b .first))) (b .first - 1 + length ls) ≡ pick (eqb (length ls) 0) (plan.at-gone (length (k .text)) b) (b .first - 1 + length ls) =
-                    (let n = sym (count-same w k h) in λ i. pick (none-eqb ls i) (smaller (b .first) (n i - (suc (b .last) - b .first))) (b .first - 1 + length ls)) in
-              record { same = record { reply = refl; shows = refl; next =
+        (λ e. pick-alike (Ends true (change ls)) (real (w .now) (both-of (b .first) (b .last) (w .pattern))) (there (length (k .text)) b) _ _ _ _ (there-same b (w .pattern))
+        (λ t. (let r = real-from (w .now) (both-of (b .first) (b .last) (w .pattern)) t in
+        let c : pick (none-of ls) (after-gone (b .first) (how-many (w .now) - (suc (b .last) - b .first))) (b .first - 1 + length ls) ≡ pick (eqb (length ls) 0) (plan.at-gone (length (k .text)) b) (b .first - 1 + length ls) =
+        (let n = sym (count-same w k h) in λ i. pick (none-eqb ls i) (smaller (b .first) (n i - (suc (b .last) - b .first))) (b .first - 1 + length ls)) in
+        record {
+          same = record {
+            reply = refl;
+            shows = refl;
+            next =
                 text-held w k h _ (b .first - 1) (b .last) (pick (eqb (length ls) 0) (plan.at-gone (length (k .text)) b) (b .first - 1 + length ls)) ls (omega arith) (r .there) (fit-from ls e g)
-                  (subst (λ z. z ≤ b .first - 1 + length ls + (how-many (w .now) - b .last)) c (at-change ls (b .first) (b .last) (how-many (w .now)) (r .one) (r .order) (r .there)))
-                  (record { lines = refl; current = c; before = refl; undone = refl; files = refl; next = refl }) } }))
-            (λ t. record { same = no-alike 4 }))
-          (λ e. record { same = no-alike 7 })
+                (subst (λ z. z ≤ b .first - 1 + length ls + (how-many (w .now) - b .last)) c (at-change ls (b .first) (b .last) (how-many (w .now)) (r .one) (r .order) (r .there)))
+                (record { lines = refl; current = c; before = refl; undone = refl; files = refl; next = refl });
+          };
+        }))
+        (λ t. record { same = no-alike 4 }))
+        (λ e. record { same = no-alike 7 })
 
     pub delete-ends : Deed-ends true delete
     unfolding deed-work decide-deed lines-given name-given too-long walk-rows more-rows updated-by turn.put-lines new-lines
     delete-ends f =
         pick-alike (Ends true delete) (real (w .now) (both-of (b .first) (b .last) (w .pattern))) (there (length (k .text)) b) _ _ _ _ (there-same b (w .pattern))
-          (λ t. (let r = real-from (w .now) (both-of (b .first) (b .last) (w .pattern)) t in
-            let c : after-gone (b .first) (how-many (w .now) - (suc (b .last) - b .first)) ≡ plan.at-gone (length (k .text)) b =
-                  (let n = sym (count-same w k h) in λ i. smaller (b .first) (n i - (suc (b .last) - b .first))) in
-            record { same = record { reply = refl; shows = refl; next =
-              text-held w k h _ (b .first - 1) (b .last) (plan.at-gone (length (k .text)) b) [] (omega arith) (r .there) refl
+        (λ t. (let r = real-from (w .now) (both-of (b .first) (b .last) (w .pattern)) t in
+        let c : after-gone (b .first) (how-many (w .now) - (suc (b .last) - b .first)) ≡ plan.at-gone (length (k .text)) b =
+        (let n = sym (count-same w k h) in λ i. smaller (b .first) (n i - (suc (b .last) - b .first))) in
+        record {
+          same = record {
+            reply = refl;
+            shows = refl;
+            next =
+                text-held w k h _ (b .first - 1) (b .last) (plan.at-gone (length (k .text)) b) [] (omega arith) (r .there) refl
                 (subst (λ z. z ≤ b .first - 1 + 0 + (how-many (w .now) - b .last)) c (at-gone (b .first) (b .last) (how-many (w .now)) (r .one) (r .order) (r .there)))
-                (record { lines = refl; current = c; before = refl; undone = refl; files = refl; next = omega arith }) } }))
-          (λ t. record { same = no-alike 4 })
+                (record { lines = refl; current = c; before = refl; undone = refl; files = refl; next = omega arith });
+          };
+        }))
+        (λ t. record { same = no-alike 4 })
 
     pub join-ends : Deed-ends true join
     unfolding deed-work decide-deed lines-given name-given too-long walk-rows more-rows updated-by turn.put-lines new-lines
     join-ends f =
         pick-alike (Ends true join) (real (w .now) (both-of (b .first) (b .last) (w .pattern))) (there (length (k .text)) b) _ _ _ _ (there-same b (w .pattern))
-          (λ t. (let r = real-from (w .now) (both-of (b .first) (b .last) (w .pattern)) t in
-            let M = take (b .last - (b .first - 1)) (drop (b .first - 1) (k .text)) in
-            let gs = glued-same (b .first) (b .last) (r .one) in
-            let bytes : all-bytes (glued-lines M) ≡ true =
-                  every-flat (λ c. ltb c 256) (λ l. l) M (λ l i. and-parts (leb (length l) 1024) (all-bytes l) (every-in fit-line l M (every-take fit-line _ (drop (b .first - 1) (k .text)) (every-drop fit-line (b .first - 1) (k .text) (h .sound .lines-fit))) i) .1) in
-            let fits : (e : ltb 1024 (length (glued-lines M)) ≡ false) → fit-lines (glued-lines M ∷ []) ≡ true =
-                  λ e. and-from (fit-line (glued-lines M)) true (and-from (leb (length (glued-lines M)) 1024) (all-bytes (glued-lines M)) (le-leb _ _ (ltb-false 1024 (length (glued-lines M)) e)) bytes) refl in
-            let one = r .one in
-            let joined : Works true (pick (ltb 1024 (length (glued (lines-from (w .now) (b .first) (b .last))))) _ _) (kept-does k join (good (plan.join-plan (sizes-of k) b))) =
-                  pick-alike (Works true) (ltb 1024 (length (glued (lines-from (w .now) (b .first) (b .last))))) (ltb 1024 (length (glued-lines M))) _ _ _ _ (ap (λ z. ltb 1024 (length z)) gs)
-                    (λ e. record { same = no-alike 7 })
-                    (λ e. record { same = record { reply = refl; shows = refl; next =
-                      text-held w k h _ (b .first - 1) (b .last) (b .first) (glued-lines M ∷ []) (omega arith) (r .there) (fits (ap (λ z. ltb 1024 (length z)) (sym gs) ∙ e)) (omega arith)
-                        (record { lines = ap (λ z. put-lines (w .now) (b .first - 1) (b .last) (record { id = w .next; bytes = z } ∷ [])) gs; current = refl; before = refl; undone = refl; files = refl; next = omega arith }) } }) in
-            record { same = joined .same }))
-          (λ t. record { same = no-alike 4 })
+        (λ t. (let r = real-from (w .now) (both-of (b .first) (b .last) (w .pattern)) t in
+        let M = take (b .last - (b .first - 1)) (drop (b .first - 1) (k .text)) in
+        let gs = glued-same (b .first) (b .last) (r .one) in
+        let bytes : all-bytes (glued-lines M) ≡ true =
+        every-flat (λ c. ltb c 256) (λ l. l) M (λ l i. and-parts (leb (length l) 1024) (all-bytes l) (every-in fit-line l M (every-take fit-line _ (drop (b .first - 1) (k .text)) (every-drop fit-line (b .first - 1) (k .text) (h .sound .lines-fit))) i) .1) in
+        let fits : (e : ltb 1024 (length (glued-lines M)) ≡ false) → fit-lines (glued-lines M ∷ []) ≡ true =
+        λ e. and-from (fit-line (glued-lines M)) true (and-from (leb (length (glued-lines M)) 1024) (all-bytes (glued-lines M)) (le-leb _ _ (ltb-false 1024 (length (glued-lines M)) e)) bytes) refl in
+        let one = r .one in
+        let joined : Works true (pick (ltb 1024 (length (glued (lines-from (w .now) (b .first) (b .last))))) _ _) (kept-does k join (good (plan.join-plan (sizes-of k) b))) =
+        pick-alike (Works true) (ltb 1024 (length (glued (lines-from (w .now) (b .first) (b .last))))) (ltb 1024 (length (glued-lines M))) _ _ _ _ (ap (λ z. ltb 1024 (length z)) gs)
+        (λ e. record { same = no-alike 7 })
+        (λ e. record {
+          same = record {
+            reply = refl;
+            shows = refl;
+            next =
+                text-held w k h _ (b .first - 1) (b .last) (b .first) (glued-lines M ∷ []) (omega arith) (r .there) (fits (ap (λ z. ltb 1024 (length z)) (sym gs) ∙ e)) (omega arith)
+                (record { lines = ap (λ z. put-lines (w .now) (b .first - 1) (b .last) (record { id = w .next; bytes = z } ∷ [])) gs; current = refl; before = refl; undone = refl; files = refl; next = omega arith });
+          };
+        }) in
+        record { same = joined .same }))
+        (λ t. record { same = no-alike 4 })
 
     pub print-ends : Deed-ends false print
     unfolding deed-work decide-deed lines-given name-given too-long walk-rows more-rows updated-by turn.put-lines
     print-ends f =
         pick-alike (Ends false print) (real (w .now) (both-of (b .first) (b .last) (w .pattern))) (there (length (k .text)) b) _ _ _ _ (there-same b (w .pattern))
-          (λ t. (let r = real-from (w .now) (both-of (b .first) (b .last) (w .pattern)) t in
-            record { same = record { reply = refl;
-              shows = append-nil (take (b .last - (b .first - 1)) (drop (b .first - 1) (k .text))) ∙ sym (printed-plain 0 (lines-from (w .now) (b .first) (b .last)) ∙ lines-same (b .first) (b .last) (r .one));
-              next = quiet-held w k h _ (b .last) (k .files) (r .there) (same-files w k h) (record { lines = refl; current = refl; before = refl; undone = refl; files = sym (h .files); next = refl }) } }))
-          (λ t. record { same = no-alike 4 })
+        (λ t. (let r = real-from (w .now) (both-of (b .first) (b .last) (w .pattern)) t in
+        record {
+          same = record {
+            reply = refl;
+            shows = append-nil (take (b .last - (b .first - 1)) (drop (b .first - 1) (k .text))) ∙ sym (printed-plain 0 (lines-from (w .now) (b .first) (b .last)) ∙ lines-same (b .first) (b .last) (r .one));
+            next = quiet-held w k h _ (b .last) (k .files) (r .there) (same-files w k h) (record { lines = refl; current = refl; before = refl; undone = refl; files = sym (h .files); next = refl });
+          };
+        }))
+        (λ t. record { same = no-alike 4 })
 
     pub number-ends : Deed-ends false number
     unfolding deed-work decide-deed lines-given name-given too-long walk-rows more-rows updated-by turn.put-lines
     number-ends f =
         pick-alike (Ends false number) (real (w .now) (both-of (b .first) (b .last) (w .pattern))) (there (length (k .text)) b) _ _ _ _ (there-same b (w .pattern))
-          (λ t. (let r = real-from (w .now) (both-of (b .first) (b .last) (w .pattern)) t in
-            let one : 1 ≤ b .first = r .one in
-            let e : suc (b .first - 1) ≡ b .first = omega arith in
-            let M = take (b .last - (b .first - 1)) (drop (b .first - 1) (k .text)) in
-            record { same = record { reply = refl;
-              shows = append-nil (numbered (suc (b .first - 1)) M) ∙ sym (printed-numbered (b .first) (lines-from (w .now) (b .first) (b .last)) ∙ (let g = lines-same (b .first) (b .last) one in let f = sym e in λ i. numbered (f i) (g i)));
-              next = quiet-held w k h _ (b .last) (k .files) (r .there) (same-files w k h) (record { lines = refl; current = refl; before = refl; undone = refl; files = sym (h .files); next = refl }) } }))
-          (λ t. record { same = no-alike 4 })
+        (λ t. (let r = real-from (w .now) (both-of (b .first) (b .last) (w .pattern)) t in
+        let one : 1 ≤ b .first = r .one in
+        let e : suc (b .first - 1) ≡ b .first = omega arith in
+        let M = take (b .last - (b .first - 1)) (drop (b .first - 1) (k .text)) in
+        record {
+          same = record {
+            reply = refl;
+            shows = append-nil (numbered (suc (b .first - 1)) M) ∙ sym (printed-numbered (b .first) (lines-from (w .now) (b .first) (b .last)) ∙ (let g = lines-same (b .first) (b .last) one in let f = sym e in λ i. numbered (f i) (g i)));
+            next = quiet-held w k h _ (b .last) (k .files) (r .there) (same-files w k h) (record { lines = refl; current = refl; before = refl; undone = refl; files = sym (h .files); next = refl });
+          };
+        }))
+        (λ t. record { same = no-alike 4 })
 
     pub where-ends : Deed-ends false where-is
     unfolding deed-work decide-deed lines-given name-given too-long walk-rows more-rows updated-by turn.put-lines
     where-ends f =
         pick-alike (Ends false where-is) (leb (b .last) (how-many (w .now))) (leb (b .last) (length (k .text))) _ _ _ _ (last-same (b .last))
-          (λ t. record { same = record { reply = refl; shows = refl;
-            next = quiet-held w k h _ (k .at) (k .files) (omega (arith, h .sound .current, count-same w k h)) (same-files w k h) (record { lines = refl; current = sym (h .at); before = refl; undone = refl; files = sym (h .files); next = refl }) } })
-          (λ t. record { same = no-alike 4 })
+        (λ t. record {
+          same = record {
+            reply = refl;
+            shows = refl;
+            next = quiet-held w k h _ (k .at) (k .files) (omega (arith, h .sound .current, count-same w k h)) (same-files w k h) (record { lines = refl; current = sym (h .at); before = refl; undone = refl; files = sym (h .files); next = refl });
+          };
+        })
+        (λ t. record { same = no-alike 4 })
 
     pub go-ends : Deed-ends false go-to
     unfolding deed-work decide-deed lines-given name-given too-long walk-rows more-rows updated-by turn.put-lines
     go-ends f =
         pick-alike (Ends false go-to) (leb 1 (b .last) && leb (b .last) (how-many (w .now))) (leb 1 (b .last) && leb (b .last) (length (k .text))) _ _ _ _ (ap (λ z. leb 1 (b .last) && z) (last-same (b .last)))
-          (λ t. (let r = and-parts (leb 1 (b .last)) (leb (b .last) (how-many (w .now))) t in
-            let one = leb-true 1 (b .last) (r .0) in
-            record { same = record { reply = refl;
-              shows = append-nil (take (b .last - (b .last - 1)) (drop (b .last - 1) (k .text))) ∙ sym (printed-plain 0 (lines-from (w .now) (b .last) (b .last)) ∙ lines-same (b .last) (b .last) one);
-              next = quiet-held w k h _ (b .last) (k .files) (leb-true _ _ (r .1)) (same-files w k h) (record { lines = refl; current = refl; before = refl; undone = refl; files = sym (h .files); next = refl }) } }))
-          (λ t. record { same = no-alike 4 })
+        (λ t. (let r = and-parts (leb 1 (b .last)) (leb (b .last) (how-many (w .now))) t in
+        let one = leb-true 1 (b .last) (r .0) in
+        record {
+          same = record {
+            reply = refl;
+            shows = append-nil (take (b .last - (b .last - 1)) (drop (b .last - 1) (k .text))) ∙ sym (printed-plain 0 (lines-from (w .now) (b .last) (b .last)) ∙ lines-same (b .last) (b .last) one);
+            next = quiet-held w k h _ (b .last) (k .files) (leb-true _ _ (r .1)) (same-files w k h) (record { lines = refl; current = refl; before = refl; undone = refl; files = sym (h .files); next = refl });
+          };
+        }))
+        (λ t. record { same = no-alike 4 })

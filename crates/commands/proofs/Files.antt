@@ -48,12 +48,16 @@ there-more : (n : List ℕ) (g : File) (fs : List File) (at from : ℕ) → same
 unfolding look-up put-file
 there-more n g fs at from e t =
     record {
-      P = g ∷ (t .P); f = t .f; R = t .R; more = t .more;
+      P = g ∷ (t .P);
+      f = t .f;
+      R = t .R;
+      more = t .more;
       split = ap (λ z. g ∷ z) (t .split);
       named = t .named;
       those-are = rw e (t .those-are);
       puts = λ ls. rw e (ap (λ z. g ∷ z) (t .puts ls));
-      slot = rw e (t .slot ∙ slot-moves true _ _ _ _ _ _ (omega arith) (omega arith)) }
+      slot = rw e (t .slot ∙ slot-moves true _ _ _ _ _ _ (omega arith) (omega arith));
+    }
 
 missing-more : (n : List ℕ) (g : File) (fs : List File) (at from : ℕ) → same (g .name) n ≡ false →
     Missing n fs (look-up n (suc at) (from + length (g .lines)) (table fs)) (suc at) (from + length (g .lines)) →
@@ -64,29 +68,37 @@ missing-more n g fs at from e t =
       those-are = rw e (t .those-are);
       none-such = rw e (t .none-such);
       puts = λ ls. rw e (ap (λ z. g ∷ z) (t .puts ls));
-      slot = rw e (t .slot ∙ slot-moves false _ _ _ _ _ _ (omega arith) (omega arith)) }
+      slot = rw e (t .slot ∙ slot-moves false _ _ _ _ _ _ (omega arith) (omega arith));
+    }
 
 here-there : (n : List ℕ) (g : File) (fs : List File) (at from : ℕ) → same (g .name) n ≡ true → There n (g ∷ fs) (look-up n at from (table (g ∷ fs))) at from
 unfolding look-up put-file
 here-there n g fs at from e =
     record {
-      P = []; f = g; R = fs; more = those (λ h. same (h .name) n) fs;
-      split = refl; named = e;
+      P = [];
+      f = g;
+      R = fs;
+      more = those (λ h. same (h .name) n) fs;
+      split = refl;
+      named = e;
       those-are = rw e;
       puts = λ ls. rw e;
-      slot = rw e (slot-moves true _ _ _ _ _ _ (omega arith) (omega arith)) }
+      slot = rw e (slot-moves true _ _ _ _ _ _ (omega arith) (omega arith));
+    }
 
 pub looked : (n : List ℕ) (fs : List File) (at from : ℕ) → There n fs (look-up n at from (table fs)) at from ⊎ Missing n fs (look-up n at from (table fs)) at from
 unfolding look-up put-file
 looked n [] at from =
     inr (record { those-are = refl; none-such = refl; puts = λ ls. refl; slot = slot-moves false _ _ _ _ _ _ (omega arith) (omega arith) })
 looked n (g ∷ fs) at from =
-    elim (cases-bool (same (g .name) n))
-      [ inl e ↦ inl (here-there n g fs at from e)
+    elim (cases-bool (same (g .name) n)) [
+      | inl e ↦ inl (here-there n g fs at from e)
       | inr e ↦
-          elim (looked n fs (suc at) (from + length (g .lines)))
-            [ inl t ↦ inl (there-more n g fs at from e t)
-            | inr t ↦ inr (missing-more n g fs at from e t) ] ]
+          elim (looked n fs (suc at) (from + length (g .lines))) [
+            | inl t ↦ inl (there-more n g fs at from e t)
+            | inr t ↦ inr (missing-more n g fs at from e t)
+          ]
+    ]
 
 -- putting a file in its place
 pub at-place : (P : List File) (f g : File) (R : List File) → with-file-at (length P) g (P ++ (f ∷ R)) ≡ P ++ (g ∷ R)
@@ -128,7 +140,7 @@ names-place (p ∷ P) f g R e h =
     let q = and-parts (not (any (λ x. same (x .name) (p .name)) (P ++ (f ∷ R)))) (other-names (P ++ (f ∷ R))) h in
     let t = λ (x : File). same (x .name) (p .name) in
     let s : any t (P ++ (f ∷ R)) ≡ any t (P ++ (g ∷ R)) =
-          any-append t P (f ∷ R) ∙ ap (λ m. or (any t P) (or (same m (p .name)) (any t R))) e ∙ sym (any-append t P (g ∷ R)) in
+    any-append t P (f ∷ R) ∙ ap (λ m. or (any t P) (or (same m (p .name)) (any t R))) e ∙ sym (any-append t P (g ∷ R)) in
     and-from (not (any t (P ++ (g ∷ R)))) (other-names (P ++ (g ∷ R))) (ap not (sym s) ∙ (q .0)) (names-place P f g R e (q .1))
 
 -- a new file behind the others
@@ -150,5 +162,5 @@ names-more (f ∷ fs) g e h =
     let t = λ (x : File). same (x .name) (f .name) in
     let q = and-parts (not (any t fs)) (other-names fs) h in
     let u : any t (fs ++ (g ∷ [])) ≡ false =
-          any-append t fs (g ∷ []) ∙ none-or (any t fs) (or (same (g .name) (f .name)) false) (not-true (any t fs) (q .0)) (none-or (same (g .name) (f .name)) false (same-turns (g .name) (f .name) ∙ (p .0)) refl) in
+    any-append t fs (g ∷ []) ∙ none-or (any t fs) (or (same (g .name) (f .name)) false) (not-true (any t fs) (q .0)) (none-or (same (g .name) (f .name)) false (same-turns (g .name) (f .name) ∙ (p .0)) refl) in
     and-from (not (any t (fs ++ (g ∷ [])))) (other-names (fs ++ (g ∷ []))) (ap not u) (names-more fs g (p .1) (q .1))

@@ -25,8 +25,17 @@ pub begins-alike : Begins-alike
 unfolding Begins-alike stand-weights distinct other-names
 begins-alike =
     record {
-      text = refl; at = refl; files = refl; ring = refl; undone = refl; before = omega arith; apart = refl; old = refl; one = omega arith;
-      sound = record { lines-fit = refl; files-fit = refl; few-files = omega arith; names-differ = refl; current = omega arith; few-stands = omega arith } }
+      text = refl;
+      at = refl;
+      files = refl;
+      ring = refl;
+      undone = refl;
+      before = omega arith;
+      apart = refl;
+      old = refl;
+      one = omega arith;
+      sound = record { lines-fit = refl; files-fit = refl; few-files = omega arith; names-differ = refl; current = omega arith; few-stands = omega arith };
+    }
 
 -- THE GRANT
 given-same : (d : Deed) → given-lines d ≡ length (lines-given d)
@@ -71,17 +80,19 @@ spends-alike w k (all-lines a like p c) r h e t rows s = refl
 -- ROOM
 pub room-kept : (records : ℕ) (k k₁ : Kept) → kept-weight k ≤ 32 * records → no-room records k k₁ ≡ false → kept-weight k₁ ≤ 32 * records
 room-kept records k k₁ h e =
-    elim (and-cases (ltb (kept-weight k) (kept-weight k₁)) (ltb (32 * records) (kept-weight k₁)) e)
-      [ inl t ↦ (let q = ltb-false (kept-weight k) (kept-weight k₁) t in omega arith)
-      | inr t ↦ ltb-false (32 * records) (kept-weight k₁) t ]
+    elim (and-cases (ltb (kept-weight k) (kept-weight k₁)) (ltb (32 * records) (kept-weight k₁)) e) [
+      | inl t ↦ (let q = ltb-false (kept-weight k) (kept-weight k₁) t in omega arith)
+      | inr t ↦ ltb-false (32 * records) (kept-weight k₁) t
+    ]
 
 -- a turn that leaves another weight was done
 done-turn : (w : Plain) (c : Command) → weight w < weight (turn w c .next) → turn w c .reply ≡ 0
 unfolding All-or-none
 done-turn w c h =
-    elim (cases-lt 0 (turn w c .reply))
-      [ inl l ↦ (let e : weight (turn w c .next) ≡ weight w = ap weight (all-or-none w c l) in absurd (omega arith))
-      | inr l ↦ omega arith ]
+    elim (cases-lt 0 (turn w c .reply)) [
+      | inl l ↦ (let e : weight (turn w c .next) ≡ weight w = ap weight (all-or-none w c l) in absurd (omega arith))
+      | inr l ↦ omega arith
+    ]
 
 module _ (records : ℕ) (w : Plain) (k : Kept) (c : Command) (r : ℕ) (h : Held w k) (t : Same-turn (turn w c) (kept-turn k c)) (room : kept-weight k ≤ 32 * records) where
   full : no-room records k (kept-turn k c .next) ≡ true → Allowed records w c (kept-no 8 k) r

@@ -6,9 +6,11 @@ pub mod Texts
 pub mod Brought
 pub mod Alike
 pub mod Filed
-
 pub mod Turned
 pub mod Planned
 pub mod Granted
 pub mod Readings
 pub mod Typed
+pub mod Handed
+pub mod Decided
+pub mod Totals

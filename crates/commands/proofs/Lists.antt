@@ -90,4 +90,4 @@ reverse-take (suc n) (x ∷ xs) h =
     let l : length xs ≡ suc n = omega arith in
     let m : 1 ≤ length (reverse xs) = omega (arith, length-reverse xs) in
     reverse-cons x (take n xs) ∙ ap (λ t. t ++ x ∷ []) (reverse-take n xs l)
-      ∙ sym (drop-append-le 1 (reverse xs) (x ∷ []) m) ∙ ap (drop 1) (sym (reverse-cons x xs))
+    ∙ sym (drop-append-le 1 (reverse xs) (x ∷ []) m) ∙ ap (drop 1) (sym (reverse-cons x xs))

@@ -50,7 +50,7 @@ lines-weigh T C a b h =
     let M = take (b - a) (drop a T) in
     let R = drop b T in
     let whole : lines-size T ≡ lines-size P + (lines-size M + lines-size R) =
-          ap lines-size (sym (split-three a b T h)) ∙ added-append line-size P (M ++ R) ∙ ap (λ n. lines-size P + n) (added-append line-size M R) in
+    ap lines-size (sym (split-three a b T h)) ∙ added-append line-size P (M ++ R) ∙ ap (λ n. lines-size P + n) (added-append line-size M R) in
     let now : lines-size (P ++ (C ++ R)) ≡ lines-size P + (lines-size C + lines-size R) = added-append line-size P (C ++ R) ∙ ap (λ n. lines-size P + n) (added-append line-size C R) in
     omega (arith, whole, now)
 
@@ -67,9 +67,12 @@ module _ (k : Kept) (d : Deed) where
       record {
         entries = text-entries (k .files) T C a b ab;
         numbers = λ i. small (n i) at (m i) (pushed (k .ring) (stand-size (length T) a b (lines-size (take (b - a) (drop a T))) came)) (table (k .files));
-        coming = long; below = ab; there = bn;
+        coming = long;
+        below = ab;
+        there = bn;
         goes = omega (arith, directory-long k);
-        comes = inside }
+        comes = inside;
+      }
 
   pub show-planned : (w : Walk) (a b : ℕ) → a ≤ b → b ≤ length (k .text) → As-planned k (show-plan (sizes-of k) w a b) d
   unfolding apply updated-by news-by
@@ -100,7 +103,7 @@ file-entries fs T C n x (inl t) =
     let front : take (x .before) (file-lines fs ++ T) ≡ file-lines P = ap (take (x .before)) D ∙ take-at (file-lines P) _ (x .before) len in
     let len₂ : length (file-lines P ++ (f .lines)) ≡ x .before + x .lines = length-append (file-lines P) (f .lines) ∙ (let l = sym long in λ i. len i + l i) in
     let back : drop (x .before + x .lines) (file-lines fs ++ T) ≡ file-lines R ++ T =
-          ap (drop (x .before + x .lines)) (D ∙ sym (append-assoc (file-lines P) (f .lines) (file-lines R ++ T))) ∙ drop-at (file-lines P ++ (f .lines)) (file-lines R ++ T) (x .before + x .lines) len₂ in
+    ap (drop (x .before + x .lines)) (D ∙ sym (append-assoc (file-lines P) (f .lines) (file-lines R ++ T))) ∙ drop-at (file-lines P ++ (f .lines)) (file-lines R ++ T) (x .before + x .lines) len₂ in
     ap (λ z. file-lines z ++ T) new ∙ around P (file n C) R T ∙ sym (λ i. front i ++ (C ++ back i))
 file-entries fs T C n x (inr t) =
     let at : x .place ≡ length fs = ap (λ z. z .place) (t .slot) ∙ (omega arith) in
@@ -135,14 +138,17 @@ module _ (k : Kept) (n : List ℕ) where
       let long : length C ≡ b - a = ap length (again-text k a b) ∙ simp (length-take, length-drop) (omega arith) in
       let l = looked n (k .files) 0 0 in
       let t : table (with-file-at (x .place) (file n C) (k .files)) ≡ take (x .place) (table (k .files)) ++ (entry n (b - a) (lines-size C) ∷ drop (suc (x .place)) (table (k .files))) =
-            table-put (x .place) (file n C) (k .files) ∙ ap (λ m. take (x .place) (table (k .files)) ++ (entry n m (lines-size C) ∷ drop (suc (x .place)) (table (k .files)))) long in
+      table-put (x .place) (file n C) (k .files) ∙ ap (λ m. take (x .place) (table (k .files)) ++ (entry n m (lines-size C) ∷ drop (suc (x .place)) (table (k .files)))) long in
       let dl = directory-long k in
       record {
         entries = file-entries (k .files) (k .text) C n x l;
         numbers = λ i. small (length (k .text)) (k .at) (lines-size (k .text)) (k .ring) (t i);
-        coming = long; below = ab; there = bn;
+        coming = long;
+        below = ab;
+        there = bn;
         goes = omega (arith, slot-inside (k .files) n x l);
-        comes = (omega arith, omega arith) }
+        comes = (omega arith, omega arith);
+      }
 
 -- EVERY DECISION
 abbrev All-planned : Kept → Deed → Checked Plan → Type 0
@@ -175,9 +181,10 @@ module _ (k : Kept) where
 
   written-spans : (b : Bounds) → b .first ≤ suc (b .last) → writable (length (k .text)) b ≡ true → (b .first - 1 ≤ b .last) × (b .last ≤ length (k .text))
   written-spans b o e =
-      elim (or-parts (there (length (k .text)) b) (eqb (length (k .text)) 0 && eqb (b .last) 0) e)
-        [ inl t ↦ (let s = spans b t in let x = s .order in let y = s .there in (omega arith, y))
-        | inr t ↦ (let q = and-parts (eqb (length (k .text)) 0) (eqb (b .last) 0) t in let x = eqb-true _ _ (q .1) in (omega arith, omega arith)) ]
+      elim (or-parts (there (length (k .text)) b) (eqb (length (k .text)) 0 && eqb (b .last) 0) e) [
+        | inl t ↦ (let s = spans b t in let x = s .order in let y = s .there in (omega arith, y))
+        | inr t ↦ (let q = and-parts (eqb (length (k .text)) 0) (eqb (b .last) 0) t in let x = eqb-true _ _ (q .1) in (omega arith, omega arith))
+      ]
 
   edit-planned : (n : List ℕ) → (There n (k .files) (slot-in k n) 0 0 ⊎ Missing n (k .files) (slot-in k n) 0 0) → slot-in k n .found ≡ true → As-planned k (plan.edit-plan (sizes-of k) (slot-in k n)) (edit n)
   edit-planned n (inl t) e =
@@ -185,7 +192,7 @@ module _ (k : Kept) where
       let from : x .before ≡ offset (t .P) = ap (λ z. z .before) (t .slot) ∙ (omega arith) in
       let long : x .lines ≡ length (t .f .lines) = ap (λ z. z .lines) (t .slot) in
       let came : take ((x .before + x .lines) - x .before) (drop (x .before) (directory k)) ≡ t .f .lines =
-            ap (λ m. take ((x .before + m) - x .before) (drop (x .before) (directory k))) long ∙ again-file k (t .P) (t .f) (t .R) (x .before) (t .split) from in
+      ap (λ m. take ((x .before + m) - x .before) (drop (x .before) (directory k))) long ∙ again-file k (t .P) (t .f) (t .R) (x .before) (t .split) from in
       let dl = directory-long k in
       let si = slot-inside (k .files) n x (inl t) in
       text-planned k (edit n) skip 0 (length (k .text)) (copied (x .before) (x .before + x .lines)) (x .lines) (x .lines) (plan.a-number (x .lines)) (omega arith) (omega arith) (ap length came ∙ sym long) (omega arith, omega arith)
@@ -195,19 +202,19 @@ module _ (k : Kept) where
   unfolding decide-deed lines-given name-given turn.put-lines
   deed-planned (append ls) r o =
       then-planned (append ls) r _ o (λ b h. short-planned (append ls) _ _ (check-planned (append ls) (leb (b .last) (length (k .text))) 4 _ (λ e. (let l = leb-true (b .last) (length (k .text)) e in
-        text-planned k (append ls) skip (b .last) (b .last) new-entries (length ls) (b .last + length ls) plan.no-row (omega arith) l refl refl))))
+      text-planned k (append ls) skip (b .last) (b .last) new-entries (length ls) (b .last + length ls) plan.no-row (omega arith) l refl refl))))
   deed-planned (insert ls) r o =
       then-planned (insert ls) r _ o (λ b h. short-planned (insert ls) _ _ (check-planned (insert ls) (leb (b .last) (length (k .text))) 4 _ (λ e. (let l = leb-true (b .last) (length (k .text)) e in
-        text-planned k (insert ls) skip (b .last - 1) (b .last - 1) new-entries (length ls) _ plan.no-row (omega arith) (omega arith) refl refl))))
+      text-planned k (insert ls) skip (b .last - 1) (b .last - 1) new-entries (length ls) _ plan.no-row (omega arith) (omega arith) refl refl))))
   deed-planned (change ls) r o =
       then-planned (change ls) r _ o (λ b h. short-planned (change ls) _ _ (check-planned (change ls) (there (length (k .text)) b) 4 _ (λ e. (let s = spans b e in let x = s .order in
-        text-planned k (change ls) measure (b .first - 1) (b .last) new-entries (length ls) _ plan.no-row (omega arith) (s .there) refl refl))))
+      text-planned k (change ls) measure (b .first - 1) (b .last) new-entries (length ls) _ plan.no-row (omega arith) (s .there) refl refl))))
   deed-planned delete r o =
       then-planned delete r _ o (λ b h. check-planned delete (there (length (k .text)) b) 4 _ (λ e. (let s = spans b e in let x = s .order in
-        text-planned k delete measure (b .first - 1) (b .last) no-entries 0 _ plan.no-row (omega arith) (s .there) refl refl)))
+      text-planned k delete measure (b .first - 1) (b .last) no-entries 0 _ plan.no-row (omega arith) (s .there) refl refl)))
   deed-planned join r o =
       then-planned join r _ o (λ b h. check-planned join (there (length (k .text)) b) 4 _ (λ e. (let s = spans b e in let x = s .order in
-        text-planned k join glue (b .first - 1) (b .last) new-entries 1 _ plan.no-row (omega arith) (s .there) refl refl)))
+      text-planned k join glue (b .first - 1) (b .last) new-entries 1 _ plan.no-row (omega arith) (s .there) refl refl)))
   deed-planned (move a) r o = refl
   deed-planned (copy a) r o = refl
   deed-planned (mark c) r o = refl

@@ -76,6 +76,7 @@ resolve-there count at n a e = go (base-plain count at a) e
     inner : (t : Bool) (m : ℕ) → (t ≡ true → m ≤ count) → check t 4 (good m) ≡ good n → n ≤ count
     inner true m h e = let q : m ≡ n = cc in omega (arith, h refl)
     inner false m h e = let z : _≡_ {A = ℕ} 0 1 = cc in absurd (omega arith)
+
     go : (c : Checked ℕ) → then c (counted count a) ≡ good n → n ≤ count
     go (good m) e = inner (leb (a .back) (m + a .on) && leb (m + a .on - a .back) count) (m + a .on - a .back) (λ t. leb-true _ _ (and-parts (leb (a .back) (m + a .on)) (leb (m + a .on - a .back) count) t .1)) e
     go (refused k) e = let z : _≡_ {A = ℕ} 0 1 = cc in absurd (omega arith)
@@ -115,9 +116,9 @@ range-same s last r b h =
     let p = and-parts (plain-address (r .first)) (plain-address (r .second)) h in
     let e₁ = then-resolve s last (r .first) (λ n q. both-of n n q) (λ n. good (bounds n n)) (p .0) (λ n. refl) in
     let e₂ = then-resolve s last (r .first) (λ n q. second s (r .second) n q) (λ n. then (resolve-plain (how-many s) (s .at) (r .second)) (λ m. in-order n m)) (p .0)
-          (λ n. second-same s last (r .second) n (p .1)) in
+    (λ n. second-same s last (r .second) n (p .1)) in
     let e₃ = then-resolve s last (r .first) (λ n q. second (at-line s n) (r .second) n q) (λ n. then (resolve-plain (how-many s) n (r .second)) (λ m. in-order n m)) (p .0)
-          (λ n. second-same (at-line s n) last (r .second) n (p .1)) in
+    (λ n. second-same (at-line s n) last (r .second) n (p .1)) in
     four (eqb (r .kind) 0) (eqb (r .kind) 1) (eqb (r .kind) 2) (eqb (r .kind) 3) _ _ _ _ _ _ _ _ _ _ refl e₁ e₂ e₃ refl
   where
     four : (x y z u : Bool) (a₀ a₁ a₂ a₃ a₄ : Both) (b₀ b₁ b₂ b₃ b₄ : Checked Bounds) →
@@ -134,11 +135,11 @@ unfolding resolve-range
 range-worded count at r b =
     let one = resolve-worded count at (r .first) in
     let two : (n m : ℕ) → Worded (then (resolve-plain count m (r .second)) (λ i. in-order n i)) =
-          λ n m. then-worded (resolve-plain count m (r .second)) _ (resolve-worded count m (r .second)) (λ i. check-worded (leb n i) 4 _ refl refl) in
+    λ n m. then-worded (resolve-plain count m (r .second)) _ (resolve-worded count m (r .second)) (λ i. check-worded (leb n i) 4 _ refl refl) in
     pick-both Worded (eqb (r .kind) 0) _ _ refl
-      (pick-both Worded (eqb (r .kind) 1) _ _ (then-worded (resolve-plain count at (r .first)) _ one (λ n. refl))
-      (pick-both Worded (eqb (r .kind) 2) _ _ (then-worded (resolve-plain count at (r .first)) _ one (λ n. two n at))
-      (pick-both Worded (eqb (r .kind) 3) _ _ (then-worded (resolve-plain count at (r .first)) _ one (λ n. two n n)) refl)))
+    (pick-both Worded (eqb (r .kind) 1) _ _ (then-worded (resolve-plain count at (r .first)) _ one (λ n. refl))
+    (pick-both Worded (eqb (r .kind) 2) _ _ (then-worded (resolve-plain count at (r .first)) _ one (λ n. two n at))
+    (pick-both Worded (eqb (r .kind) 3) _ _ (then-worded (resolve-plain count at (r .first)) _ one (λ n. two n n)) refl)))
 
 pub defaults-same : (s : Stand) (d : Deed) → bounds (default-from s (takes d)) (default-to s (takes d)) ≡ default-bounds (how-many s) (s .at) d
 unfolding takes default-bounds
@@ -194,9 +195,9 @@ range-ordered count at r b h =
     let one : (n : ℕ) → n ≤ suc n = λ n. omega arith in
     let all : 1 ≤ suc count = omega arith in
     pick-both Ordered (eqb (r .kind) 0) _ _ h
-      (pick-both Ordered (eqb (r .kind) 1) _ _ (then-ordered (resolve-plain count at (r .first)) _ (λ n. one n))
-      (pick-both Ordered (eqb (r .kind) 2) _ _ (then-ordered (resolve-plain count at (r .first)) _ (λ n. two n at))
-      (pick-both Ordered (eqb (r .kind) 3) _ _ (then-ordered (resolve-plain count at (r .first)) _ (λ n. two n n)) all)))
+    (pick-both Ordered (eqb (r .kind) 1) _ _ (then-ordered (resolve-plain count at (r .first)) _ (λ n. one n))
+    (pick-both Ordered (eqb (r .kind) 2) _ _ (then-ordered (resolve-plain count at (r .first)) _ (λ n. two n at))
+    (pick-both Ordered (eqb (r .kind) 3) _ _ (then-ordered (resolve-plain count at (r .first)) _ (λ n. two n n)) all)))
 
 pub default-ordered : (count at : ℕ) (d : Deed) → default-bounds count at d .first ≤ suc (default-bounds count at d .last)
 unfolding default-bounds

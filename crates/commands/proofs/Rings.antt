@@ -44,19 +44,21 @@ sum-ring s ts = added-reverse (λ n. n) (stand-weights s ts) ∙ sum-stands s ts
 pub push-turned : (ns : List ℕ) (n : ℕ) → length ns ≤ 64 → reverse (take 64 (n ∷ ns)) ≡ pushed (reverse ns) n
 push-turned ns n h =
     let l : length (reverse ns) ≡ length ns = length-reverse ns in
-    elim (cases-lt (length ns) 64)
-      [ inl k ↦
+    elim (cases-lt (length ns) 64) [
+      | inl k ↦
           (let t : ltb (length (reverse ns)) 64 ≡ true = lt-ltb _ _ (omega arith) in
-           rw t (ap reverse (take-less 64 (n ∷ ns) (omega arith)) ∙ reverse-cons n ns))
+          rw t (ap reverse (take-less 64 (n ∷ ns) (omega arith)) ∙ reverse-cons n ns))
       | inr k ↦
           (let t : ltb (length (reverse ns)) 64 ≡ false = le-ltb _ _ (omega arith) in
-           rw t (reverse-cons n (take 63 ns) ∙ ap (λ z. z ++ n ∷ []) (reverse-take 63 ns (omega arith)))) ]
+          rw t (reverse-cons n (take 63 ns) ∙ ap (λ z. z ++ n ∷ []) (reverse-take 63 ns (omega arith))))
+    ]
 
 pub pushed-few : (ns : List ℕ) (n : ℕ) → length ns ≤ 64 → length (pushed ns n) ≤ 64
 pushed-few ns n h =
-    elim (cases-lt (length ns) 64)
-      [ inl k ↦ rw (lt-ltb (length ns) 64 k) (simp length-append (omega arith))
-      | inr k ↦ rw (le-ltb (length ns) 64 k) (simp (length-append, length-drop) (omega arith)) ]
+    elim (cases-lt (length ns) 64) [
+      | inl k ↦ rw (lt-ltb (length ns) 64 k) (simp length-append (omega arith))
+      | inr k ↦ rw (le-ltb (length ns) 64 k) (simp (length-append, length-drop) (omega arith))
+    ]
 
 -- the stand before a change comes to those that were before
 pub ring-grows : (s₁ s : Stand) (ts : List Stand) (n : ℕ) → length ts ≤ 64 → stand-weight s₁ s ≡ n →

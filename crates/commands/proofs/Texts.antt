@@ -34,7 +34,7 @@ unfolding new-lines
 new-from n [] = refl
 new-from n (l ∷ ls) =
     and-from (leb n n) (every (λ x. leb n (x .id)) (new-lines (suc n) ls)) (le-leb n n (omega arith))
-      (every-by (λ x. leb n (x .id)) (new-lines (suc n) ls) (λ x i. le-leb n (x .id) (omega (arith, leb-true (suc n) (x .id) (every-in (λ y. leb (suc n) (y .id)) x (new-lines (suc n) ls) (new-from (suc n) ls) i)))))
+    (every-by (λ x. leb n (x .id)) (new-lines (suc n) ls) (λ x i. le-leb n (x .id) (omega (arith, leb-true (suc n) (x .id) (every-in (λ y. leb (suc n) (y .id)) x (new-lines (suc n) ls) (new-from (suc n) ls) i)))))
 
 pub new-between : (n : ℕ) (ls : List (List ℕ)) → every (λ l. leb n (l .id) && ltb (l .id) (n + length ls)) (new-lines n ls) ≡ true
 unfolding new-lines
@@ -43,11 +43,11 @@ new-between n (l ∷ ls) =
     let t = λ (x : Line). leb n (x .id) && ltb (x .id) (n + suc (length ls)) in
     let u = λ (x : Line). leb (suc n) (x .id) && ltb (x .id) (suc n + length ls) in
     and-from _ (every t (new-lines (suc n) ls)) (and-from (leb n n) (ltb n (n + suc (length ls))) (le-leb n n (omega arith)) (lt-ltb n (n + suc (length ls)) (omega arith)))
-      (every-by t (new-lines (suc n) ls) (λ x i.
-        let p = and-parts (leb (suc n) (x .id)) (ltb (x .id) (suc n + length ls)) (every-in u x (new-lines (suc n) ls) (new-between (suc n) ls) i) in
-        let a = leb-true (suc n) (x .id) (p .0) in
-        let b = ltb-true (x .id) (suc n + length ls) (p .1) in
-        and-from (leb n (x .id)) (ltb (x .id) (n + suc (length ls))) (le-leb n (x .id) (omega arith)) (lt-ltb (x .id) (n + suc (length ls)) (omega arith))))
+    (every-by t (new-lines (suc n) ls) (λ x i.
+    let p = and-parts (leb (suc n) (x .id)) (ltb (x .id) (suc n + length ls)) (every-in u x (new-lines (suc n) ls) (new-between (suc n) ls) i) in
+    let a = leb-true (suc n) (x .id) (p .0) in
+    let b = ltb-true (x .id) (suc n + length ls) (p .1) in
+    and-from (leb n (x .id)) (ltb (x .id) (n + suc (length ls))) (le-leb n (x .id) (omega arith)) (lt-ltb (x .id) (n + suc (length ls)) (omega arith))))
 
 some-new : (n : ℕ) (ls : List (List ℕ)) → not (none-of (new-lines n ls)) ≡ ltb 0 (length ls)
 unfolding new-lines
@@ -57,10 +57,10 @@ some-new n (l ∷ ls) = sym (lt-ltb 0 (suc (length ls)) (omega arith))
 between-more : (a b c d : ℕ) (ls : List Line) → c ≤ a → b ≤ d → every (λ l. leb a (l .id) && ltb (l .id) b) ls ≡ true → every (λ l. leb c (l .id) && ltb (l .id) d) ls ≡ true
 between-more a b c d ls h k e =
     every-by (λ l. leb c (l .id) && ltb (l .id) d) ls (λ x i.
-      let p = and-parts (leb a (x .id)) (ltb (x .id) b) (every-in (λ l. leb a (l .id) && ltb (l .id) b) x ls e i) in
-      let q = leb-true a (x .id) (p .0) in
-      let r = ltb-true (x .id) b (p .1) in
-      and-from (leb c (x .id)) (ltb (x .id) d) (le-leb c (x .id) (omega arith)) (lt-ltb (x .id) d (omega arith)))
+    let p = and-parts (leb a (x .id)) (ltb (x .id) b) (every-in (λ l. leb a (l .id) && ltb (l .id) b) x ls e i) in
+    let q = leb-true a (x .id) (p .0) in
+    let r = ltb-true (x .id) b (p .1) in
+    and-from (leb c (x .id)) (ltb (x .id) d) (le-leb c (x .id) (omega arith)) (lt-ltb (x .id) d (omega arith)))
 
 -- a house after lines from a to b were replaced by new ones
 pub record Replaced (w w₁ : Plain) (a b at : ℕ) (ls : List (List ℕ)) : Type 0 where
@@ -104,11 +104,12 @@ module _ (w : Plain) (k : Kept) (h : Held w k) where
 
   pub good-now : Good 1 (w .next) (w .now)
   good-now = record {
-      apart = h .apart;
-      below = λ i u. (let r = in-each-from (λ l. l .id) i (w .now .lines) u in
+    apart = h .apart;
+    below = λ i u. (let r = in-each-from (λ l. l .id) i (w .now .lines) u in
         let p = and-parts (leb 1 (r .0 .id)) (ltb (r .0 .id) (w .next)) (every-in (λ l. leb 1 (l .id) && ltb (l .id) (w .next)) (r .0) (w .now .lines) (h .old) (r .1)) in
         omega (arith, leb-true 1 (r .0 .id) (p .0), ltb-true (r .0 .id) (w .next) (p .1), r .2));
-      within = omega (arith, h .at, h .sound .current, count-same) }
+    within = omega (arith, h .at, h .sound .current, count-same);
+  }
 
   stand-is : (s₁ : Stand) (a b : ℕ) (ls : List (List ℕ)) → a ≤ b → b ≤ how-many (w .now) → s₁ .lines ≡ put-lines (w .now) a b (new-lines (w .next) ls) →
       stand-weight s₁ (w .now) ≡ stand-size (length (k .text)) a b (lines-size (take (b - a) (drop a (k .text)))) (length ls)
@@ -139,20 +140,22 @@ module _ (w : Plain) (k : Kept) (h : Held w k) where
         before = subst (λ (z : List Stand). length z ≤ 64) (sym (r .before)) (simp length-take (omega arith));
         apart = ap (λ z. distinct (ids z)) (r .lines) ∙ (g .apart);
         old = (λ i. every (λ l. leb 1 (l .id) && ltb (l .id) (r .next i)) (r .lines i)) ∙
-          every-both (λ l. leb 1 (l .id) && ltb (l .id) (w .next + length ls)) (take a L ++ N) (drop b L)
+            every-both (λ l. leb 1 (l .id) && ltb (l .id) (w .next + length ls)) (take a L ++ N) (drop b L)
             (every-both (λ l. leb 1 (l .id) && ltb (l .id) (w .next + length ls)) (take a L) N
-              (every-take _ a L (between-more 1 (w .next) 1 (w .next + length ls) L (omega arith) (omega arith) (h .old)))
-              (between-more (w .next) (w .next + length ls) 1 (w .next + length ls) N one (omega arith) (new-between (w .next) ls)))
+            (every-take _ a L (between-more 1 (w .next) 1 (w .next + length ls) L (omega arith) (omega arith) (h .old)))
+            (between-more (w .next) (w .next + length ls) 1 (w .next + length ls) N one (omega arith) (new-between (w .next) ls)))
             (every-drop _ b L (between-more 1 (w .next) 1 (w .next + length ls) L (omega arith) (omega arith) (h .old)));
         one = omega (arith, r .next);
         sound = record {
           lines-fit = every-both fit-line (take a (k .text)) (ls ++ drop b (k .text)) (every-take fit-line a (k .text) (h .sound .lines-fit))
-            (every-both fit-line ls (drop b (k .text)) fit (every-drop fit-line b (k .text) (h .sound .lines-fit)));
+              (every-both fit-line ls (drop b (k .text)) fit (every-drop fit-line b (k .text) (h .sound .lines-fit)));
           files-fit = h .sound .files-fit;
           few-files = h .sound .few-files;
           names-differ = h .sound .names-differ;
           current = simp (length-append, length-take, length-drop) (omega arith);
-          few-stands = pushed-few (k .ring) n (h .sound .few-stands) } }
+          few-stands = pushed-few (k .ring) n (h .sound .few-stands);
+        };
+      }
 
   pub same-files : Files-sound (k .files)
   same-files = record { files-fit = h .sound .files-fit; few-files = h .sound .few-files; names-differ = h .sound .names-differ }
@@ -176,7 +179,9 @@ module _ (w : Plain) (k : Kept) (h : Held w k) where
           few-files = f .few-files;
           names-differ = f .names-differ;
           current = omega arith;
-          few-stands = h .sound .few-stands } }
+          few-stands = h .sound .few-stands;
+        };
+      }
 
 -- WEIGHTS
 pub weighs-alike : Weighs-alike

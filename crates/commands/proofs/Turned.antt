@@ -46,10 +46,10 @@ module _ (w : Plain) (k : Kept) (h : Held w k) where
   found-alike b redo f e g o s = absurd (false≢true e)
   found-alike b (save n) f e g o s =
       subst (λ z. Same-turn (turn-of w (both-from (w .pattern) (good b)) (save n)) (kept-does k (save n) (decide-deed (sizes-of k) z (given-of (save n)) (good b) (save n)))) (sym s)
-        (save-ends w k h n (good b) (and-parts true (fit-name n) g .1) refl o .same)
+      (save-ends w k h n (good b) (and-parts true (fit-name n) g .1) refl o .same)
   found-alike b (edit n) f e g o s =
       subst (λ z. Same-turn (turn-of w (both-from (w .pattern) (good b)) (edit n)) (kept-does k (edit n) (decide-deed (sizes-of k) z (given-of (edit n)) (good b) (edit n)))) (sym s)
-        (edit-ends w k h n (good b) .same)
+      (edit-ends w k h n (good b) .same)
   found-alike b (load n) f e g o s = absurd (false≢true e)
   found-alike b files f e g o s = files-ends w k h f (good b) .same
   found-alike b bad f e g o s = absurd (false≢true e)
@@ -75,10 +75,10 @@ module _ (w : Plain) (k : Kept) (h : Held w k) where
   lost-alike m redo f e g z s = absurd (false≢true e)
   lost-alike m (save n) f e g z s =
       subst (λ x. Same-turn (turn-of w (both-from (w .pattern) (refused m)) (save n)) (kept-does k (save n) (decide-deed (sizes-of k) x (given-of (save n)) (refused m) (save n)))) (sym s)
-        (save-ends w k h n (refused m) (and-parts true (fit-name n) g .1) z refl .same)
+      (save-ends w k h n (refused m) (and-parts true (fit-name n) g .1) z refl .same)
   lost-alike m (edit n) f e g z s =
       subst (λ x. Same-turn (turn-of w (both-from (w .pattern) (refused m)) (edit n)) (kept-does k (edit n) (decide-deed (sizes-of k) x (given-of (edit n)) (refused m) (edit n)))) (sym s)
-        (edit-ends w k h n (refused m) .same)
+      (edit-ends w k h n (refused m) .same)
   lost-alike m (load n) f e g z s = absurd (false≢true e)
   lost-alike m files f e g z s = files-ends w k h f (refused m) .same
   lost-alike m bad f e g z s = absurd (false≢true e)

@@ -37,7 +37,7 @@ module _ (records : ℕ) (w : Plain) (k : Kept) (bs : List ℕ) (r : ℕ) (h : H
       record { next = a .next; may = inl (c, e, f, a .allowed); held = a .held; room = a .room }
   one c false e f s =
       subst (λ u. May-be records w bs u r) (sym (ap (within-room records k) (unknown-turn k c f) ∙ no-turn records 2 k))
-        (record { next = w; may = inr (inl (c, e, f, refl, refl, refl)); held = h; room = room })
+      (record { next = w; may = inr (inl (c, e, f, refl, refl, refl)); held = h; room = room })
 
   all : (cs : List Command) → reads bs ≡ cs → length cs ≤ 1 → may-spend-on k cs r ≡ true → May-be records w bs (typed-turn records k cs) r
   unfolding May

@@ -48,6 +48,13 @@ well-read (all-lines r like p c) = true
 unfoldable pub Reads-well : Type 0
 Reads-well = (bs : List ℕ) (c : Command) → reads bs ≡ c ∷ [] → well-read c ≡ true
 
+abbrev pub lines-read : Command → ℕ
+lines-read (plain c) = length (lines-given (c .deed))
+lines-read (all-lines r like p c) = 0
+
+unfoldable pub Reads-few : Type 0
+Reads-few = (bs : List ℕ) (c : Command) → reads bs ≡ c ∷ [] → (lines-read c ≤ length bs) × (length bs < 65536)
+
 -- THE SAME TURN
 pub record Same-turn (t : Turn) (u : Kept-turn) : Type 0 where
   pub reply : u .reply ≡ t .reply

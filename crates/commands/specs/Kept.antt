@@ -11,9 +11,9 @@ use Rattle.plain.specs.House.{File}
 
 pub record Kept : Type 0 where
   pub text : List (List ℕ)
-  pub at : ℕ                         -- the current line, from 1; 0 if there is none
+  pub at : ℕ  -- the current line, from 1; 0 if there is none
   pub files : List File
-  pub ring : List ℕ                  -- what each earlier stand weighs, the oldest first, up to 64
+  pub ring : List ℕ  -- what each earlier stand weighs, the oldest first, up to 64
 
 abbrev pub kept : List (List ℕ) → ℕ → List File → List ℕ → Kept
 kept t n fs r = record { text = t; at = n; files = fs; ring = r }

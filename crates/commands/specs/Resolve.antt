@@ -46,7 +46,7 @@ resolve-range count at r none =
     (pick (eqb (r .kind) 1) (then (resolve-plain count at (r .first)) (λ n. good (bounds n n)))
     (pick (eqb (r .kind) 2) (then (resolve-plain count at (r .first)) (λ n. then (resolve-plain count at (r .second)) (λ m. in-order n m)))
     (pick (eqb (r .kind) 3) (then (resolve-plain count at (r .first)) (λ n. then (resolve-plain count n (r .second)) (λ m. in-order n m)))
-        (good (bounds 1 count)))))
+    (good (bounds 1 count)))))
 
 -- without a range: the current line, it and the next, the last, all, the next
 unfoldable pub default-bounds : ℕ → ℕ → Deed → Bounds

@@ -1,10 +1,13 @@
 -- The small numbers beside the directory, and what a commit says of them. Assumes nothing: these are definitions.
+use mathlib.Core.Path.{_≡_}
+use mathlib.Core.Bool.{Bool}
 use mathlib.Core.List.{List, [], _∷_, _++_}
-use Prim.Native.Nat.{ℕ, zero, suc, _+_, _-_}
-use lib.ListN.{length, take, drop}
-use Rattle.plain.specs.Pattern.{added-up}
+use Prim.Native.Nat.{ℕ, zero, suc, _+_, _-_, _≤_}
+use lib.Dec.{ltb}
+use lib.ListN.{length, getD, take, drop}
+use Rattle.plain.specs.Pattern.{pick, added-up}
 use Rattle.commands.specs.Kept.{Kept, lines-size, sum, stand-size}
-use Rattle.commands.specs.Plan.{table, Plan, Update, same-as-before, current-only, the-text, the-file}
+use Rattle.commands.specs.Plan.{table, look-up, Plan, Update, same-as-before, current-only, the-text, the-file}
 use Rattle.journal.specs.Small.{Entry, entry, Small, small, Also, nothing-else, push, slot, News, news, pushed, ring-by, files-by, updated}
 
 abbrev pub smalls-of : Kept → Small
@@ -22,3 +25,24 @@ entry-size e = 128 + length (e .name) + e .size
 
 abbrev pub smalls-weight : Small → ℕ
 smalls-weight s = s .weight + sum (s .ring) + added-up entry-size (s .files)
+
+-- THE WEIGHT AFTERWARDS, from the weight before and a few numbers
+-- what a full ring drops
+abbrev pub oldest : List ℕ → ℕ
+oldest r = pick (ltb (length r) 64) 0 (getD r 0 0)
+
+abbrev pub text-total : ℕ → ℕ → ℕ → ℕ → ℕ → ℕ
+text-total total went came stand dropped = total - went - dropped + came + stand
+
+-- a new file weighs something itself
+abbrev pub file-total : ℕ → Bool → ℕ → ℕ → ℕ → ℕ
+file-total total found size came name = total - size + came + pick found 0 (128 + name)
+
+unfoldable pub Totals-stand : Type 0
+Totals-stand =
+    (s : Small) (p : Plan) (went came : ℕ) (n : List ℕ) →
+    (went ≤ s .weight →
+    smalls-weight (updated (news-by the-text s p went came n) s)
+    ≡ text-total (smalls-weight s) went came (stand-size (s .count) (p .after) (p .upto) went (p .came)) (oldest (s .ring)))
+    × (smalls-weight (updated (news-by (the-file (look-up n 0 0 (s .files) .place)) s p went came n) s)
+    ≡ file-total (smalls-weight s) (look-up n 0 0 (s .files) .found) (look-up n 0 0 (s .files) .size) came (length n))

@@ -156,8 +156,11 @@ kept-turn k (plain c) = kept-does k (c .deed) (decision k c)
 kept-turn k (all-lines r like q c) = kept-no 2 k
 
 -- no room: more is to be kept than before, and than a sixteenth of the bytes of so many records
+abbrev pub too-heavy : ℕ → ℕ → ℕ → Bool
+too-heavy records before after = ltb before after && ltb (32 * records) after
+
 abbrev pub no-room : ℕ → Kept → Kept → Bool
-no-room records k k₁ = ltb (kept-weight k) (kept-weight k₁) && ltb (32 * records) (kept-weight k₁)
+no-room records k k₁ = too-heavy records (kept-weight k) (kept-weight k₁)
 
 abbrev pub within-room : ℕ → Kept → Kept-turn → Kept-turn
 within-room records k t = pick (no-room records k (t .next)) (kept-no 8 k) t
