@@ -12,3 +12,4 @@ pub mod Planned
 pub mod Granted
 pub mod Readings
 pub mod Typed
+pub mod Handed

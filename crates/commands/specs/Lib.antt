@@ -4,3 +4,4 @@ pub mod Plan
 pub mod Turn
 pub mod Smalls
 pub mod Held
+pub mod Code

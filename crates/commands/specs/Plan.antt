@@ -127,24 +127,55 @@ edit-plan s f = text-plan s skip 0 (s .count) (copied (f .before) (f .before + f
 abbrev pub writable : ℕ → Bounds → Bool
 writable count b = or (there count b) (eqb count 0 && eqb (b .last) 0)
 
+abbrev pub decide-append : Sizes → Given → Bounds → Checked Plan
+decide-append s g b = check (g .short) 7 (check (leb (b .last) (s .count)) 4 (good (append-plan s g b)))
+
+abbrev pub decide-insert : Sizes → Given → Bounds → Checked Plan
+decide-insert s g b = check (g .short) 7 (check (leb (b .last) (s .count)) 4 (good (insert-plan s g b)))
+
+abbrev pub decide-change : Sizes → Given → Bounds → Checked Plan
+decide-change s g b = check (g .short) 7 (check (there (s .count) b) 4 (good (change-plan s g b)))
+
+abbrev pub decide-delete : Sizes → Bounds → Checked Plan
+decide-delete s b = check (there (s .count) b) 4 (good (delete-plan s b))
+
+abbrev pub decide-join : Sizes → Bounds → Checked Plan
+decide-join s b = check (there (s .count) b) 4 (good (join-plan s b))
+
+abbrev pub decide-show : Sizes → Walk → Bounds → Checked Plan
+decide-show s w b = check (there (s .count) b) 4 (good (show-plan s w (b .first - 1) (b .last)))
+
+abbrev pub decide-where : Sizes → Bounds → Checked Plan
+decide-where s b = check (leb (b .last) (s .count)) 4 (good (say-plan s (a-number (b .last))))
+
+abbrev pub decide-go : Sizes → Bounds → Checked Plan
+decide-go s b = check (leb 1 (b .last) && leb (b .last) (s .count)) 4 (good (show-plan s show (b .last - 1) (b .last)))
+
+-- a 65th file is looked for first of all
+abbrev pub decide-save : Sizes → Slot → Checked Bounds → Checked Plan
+decide-save s f r = check (or (f .found) (ltb (f .place) 64)) 7 (then r (λ b. check (writable (s .count) b) 4 (good (file-plan s f (b .first - 1) (b .last)))))
+
+abbrev pub decide-edit : Sizes → Slot → Checked Plan
+decide-edit s f = check (f .found) 3 (good (edit-plan s f))
+
 unfoldable pub decide-deed : Sizes → Slot → Given → Checked Bounds → Deed → Checked Plan
-decide-deed s f g r (append ls) = then r (λ b. check (g .short) 7 (check (leb (b .last) (s .count)) 4 (good (append-plan s g b))))
-decide-deed s f g r (insert ls) = then r (λ b. check (g .short) 7 (check (leb (b .last) (s .count)) 4 (good (insert-plan s g b))))
-decide-deed s f g r (change ls) = then r (λ b. check (g .short) 7 (check (there (s .count) b) 4 (good (change-plan s g b))))
-decide-deed s f g r delete = then r (λ b. check (there (s .count) b) 4 (good (delete-plan s b)))
-decide-deed s f g r join = then r (λ b. check (there (s .count) b) 4 (good (join-plan s b)))
+decide-deed s f g r (append ls) = then r (λ b. decide-append s g b)
+decide-deed s f g r (insert ls) = then r (λ b. decide-insert s g b)
+decide-deed s f g r (change ls) = then r (λ b. decide-change s g b)
+decide-deed s f g r delete = then r (λ b. decide-delete s b)
+decide-deed s f g r join = then r (λ b. decide-join s b)
 decide-deed s f g r (move a) = refused 2
 decide-deed s f g r (copy a) = refused 2
 decide-deed s f g r (mark c) = refused 2
-decide-deed s f g r print = then r (λ b. check (there (s .count) b) 4 (good (show-plan s show (b .first - 1) (b .last))))
-decide-deed s f g r number = then r (λ b. check (there (s .count) b) 4 (good (show-plan s show-numbered (b .first - 1) (b .last))))
-decide-deed s f g r where-is = then r (λ b. check (leb (b .last) (s .count)) 4 (good (say-plan s (a-number (b .last)))))
+decide-deed s f g r print = then r (λ b. decide-show s show b)
+decide-deed s f g r number = then r (λ b. decide-show s show-numbered b)
+decide-deed s f g r where-is = then r (λ b. decide-where s b)
 decide-deed s f g r (swap p q k) = refused 2
-decide-deed s f g r go-to = then r (λ b. check (leb 1 (b .last) && leb (b .last) (s .count)) 4 (good (show-plan s show (b .last - 1) (b .last))))
+decide-deed s f g r go-to = then r (λ b. decide-go s b)
 decide-deed s f g r undo = refused 2
 decide-deed s f g r redo = refused 2
-decide-deed s f g r (save n) = check (or (f .found) (ltb (f .place) 64)) 7 (then r (λ b. check (writable (s .count) b) 4 (good (file-plan s f (b .first - 1) (b .last)))))
-decide-deed s f g r (edit n) = check (f .found) 3 (good (edit-plan s f))
+decide-deed s f g r (save n) = decide-save s f r
+decide-deed s f g r (edit n) = decide-edit s f
 decide-deed s f g r (load n) = refused 2
 decide-deed s f g r files = good (say-plan s all-files)
 decide-deed s f g r bad = refused 2
