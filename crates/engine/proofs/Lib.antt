@@ -1,3 +1,5 @@
 pub mod Facts
 pub mod Course
 pub mod Devices
+pub mod Pieces
+pub mod Shares
