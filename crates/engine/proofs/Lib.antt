@@ -3,3 +3,4 @@ pub mod Course
 pub mod Devices
 pub mod Pieces
 pub mod Shares
+pub mod CompactFacts

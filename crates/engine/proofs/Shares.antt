@@ -13,7 +13,7 @@ use Rattle.plain.specs.House.{File}
 use Rattle.plain.proofs.Basics.{added-append}
 use Rattle.journal.specs.Log.{Position, hole, Rec, Packed, Alike, none, more}
 use Rattle.journal.proofs.Compaction.{Either}
-use Rattle.journal.proofs.Waiting.{waiting}
+use Rattle.journal.proofs.Waiting.{waiting, Behind}
 use Rattle.commands.specs.Kept.{Kept, kept-weight, lines-size, file-size, file-lines, directory}
 use Rattle.engine.specs.Packing.{records-of, lines-records, records-on}
 use Rattle.engine.proofs.Pieces.{records-few, line-of}
@@ -92,6 +92,14 @@ module _ (t : ℕ) where
   records-on-came (q ∷ D) [] i p h e a b = absurd (omega arith)
   records-on-came (q ∷ D) (l ∷ ls) zero p h e a b = rw (ne-eqb (q .tape) t a, eq-eqb (p .tape) t b) (omega arith)
   records-on-came (q ∷ D) (l ∷ ls) (suc i) p h e a b = let r = records-on-came D ls i p (omega arith) (omega arith) a b in omega arith
+
+  -- none of them there
+  pub records-on-none : (D : List Position) (ls : List (List ℕ)) → Behind t (length D) D → records-on t D ls ≡ 0
+  unfolding records-on
+  records-on-none [] ls h = refl
+  records-on-none (p ∷ D) [] h = refl
+  records-on-none (p ∷ D) (l ∷ ls) h =
+      rw (ne-eqb (p .tape) t (λ e. h 0 (omega arith) e)) (let r = records-on-none D ls (λ i l. h (suc i) (omega arith)) in omega arith)
 
   pub waiting-most : (D : List Position) → waiting t D ≤ length D
   unfolding waiting
