@@ -4,3 +4,4 @@ pub mod Devices
 pub mod Pieces
 pub mod Shares
 pub mod CompactFacts
+pub mod CompactPiece
