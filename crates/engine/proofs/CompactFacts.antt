@@ -159,20 +159,20 @@ fits-phase ph f = record { tapes = f .tapes; store = f .store; job = f .job; wal
 
 -- WHAT COMES OF CARRYING
 -- what is the same in both
-pub record Untouched (x x₁ : House) : Type 0 where
+pub record Untouched (w : Bool) (x x₁ : House) : Type 0 where
   pub room : x₁ .tapes .room ≡ x .tapes .room
   pub small : x₁ .store .small ≡ x .store .small
   pub pending : x₁ .store .pending ≡ x .store .pending
   pub job : x₁ .job ≡ x .job
   pub walking : x₁ .walking ≡ x .walking
   pub putting : x₁ .putting ≡ x .putting
-  pub waking : x₁ .carrying .waking ≡ x .carrying .waking
+  pub waking : x₁ .carrying .waking ≡ w
 
 -- q entries were carried, and that is all that may be
-pub record Some-carried (codec : Codec) (R m : ℕ) (live : Bool) (k : Kept) (q r : ℕ) (x x₁ : House) (d₁ : Device) (r₁ : ℕ) : Type 0 where
+pub record Some-carried-at (codec : Codec) (R m : ℕ) (live : Bool) (k : Kept) (q r : ℕ) (x x₁ : House) (d₁ : Device) (r₁ : ℕ) : Type 0 where
   pub busy : Busy-at codec R m live d₁ x₁ k
   pub fits : Fits x₁
-  pub same : Untouched x x₁
+  pub same : Untouched (x .carrying .waking) x x₁
   pub active : x₁ .tapes .active ≡ x .tapes .active
   pub generation : x₁ .tapes .generation ≡ x .tapes .generation
   pub used : x₁ .tapes .used ≡ x .tapes .used
@@ -184,7 +184,7 @@ pub record Some-carried (codec : Codec) (R m : ℕ) (live : Bool) (k : Kept) (q 
 pub record All-carried (codec : Codec) (R : ℕ) (k : Kept) (q r : ℕ) (x x₁ : House) (d₁ : Device) (r₁ : ℕ) : Type 0 where
   pub quiet : Quiet codec R true d₁ x₁ k
   pub fits : Fits x₁
-  pub same : Untouched x x₁
+  pub same : Untouched (x .carrying .waking) x x₁
   pub active : x₁ .tapes .active ≡ passive x
   pub generation : x₁ .tapes .generation ≡ next-generation (x .tapes .generation)
   pub used : x₁ .tapes .used ≡ x .tapes .other + records-on (x .tapes .active) (x .store .dir) (directory k)

@@ -5,3 +5,5 @@ pub mod Pieces
 pub mod Shares
 pub mod CompactFacts
 pub mod CompactPiece
+pub mod CompactCarry
+pub mod Setup
