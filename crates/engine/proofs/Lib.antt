@@ -7,3 +7,4 @@ pub mod CompactFacts
 pub mod CompactPiece
 pub mod CompactCarry
 pub mod Setup
+pub mod CompactBegin
