@@ -23,7 +23,7 @@ use Rattle.commands.specs.Kept.{Kept, kept-weight, directory}
 use Rattle.commands.specs.Smalls.{smalls-of}
 use Rattle.engine.specs.State.{House, Phase, Tapes, at-phase, passive}
 use Rattle.engine.specs.Fits.{Fits, Word, Replay-fits, Position-fits, Positions-fit, none, more}
-use Rattle.engine.specs.Packing.{records-on}
+use Rattle.engine.specs.Packing.{records-on, lines-records}
 use Rattle.engine.specs.Machine.{next-on}
 use Rattle.engine.proofs.Facts.{Codec, Off-at, Powered, Quiet, Busy, Active, Copying, lines-of-kept}
 use Rattle.engine.proofs.Devices.{Firm, firm-off}
@@ -189,3 +189,57 @@ pub record All-carried (codec : Codec) (R : ℕ) (k : Kept) (q r : ℕ) (x x₁ 
   pub generation : x₁ .tapes .generation ≡ next-generation (x .tapes .generation)
   pub used : x₁ .tapes .used ≡ x .tapes .other + records-on (x .tapes .active) (x .store .dir) (directory k)
   pub count : r₁ ≤ r + 6 * q
+
+-- THE SAME from where the other tape is begun, with q entries that may be carried
+pub record Some-begun-at (codec : Codec) (R m : ℕ) (live : Bool) (k : Kept) (q : ℕ) (w : Bool) (r : ℕ) (x x₁ : House) (d₁ : Device) (r₁ : ℕ) : Type 0 where
+  pub busy : Busy-at codec R m live d₁ x₁ k
+  pub fits : Fits x₁
+  pub same : Untouched w x x₁
+  pub active : x₁ .tapes .active ≡ x .tapes .active
+  pub generation : x₁ .tapes .generation ≡ x .tapes .generation
+  pub used : x₁ .tapes .used ≡ x .tapes .used
+  pub waits : waiting (x .tapes .active) (x₁ .store .dir) + q ≡ length (x .store .dir)
+  pub shares : x₁ .tapes .other ≤ 130 + records-on (passive x) (x₁ .store .dir) (directory k)
+  pub count : r₁ ≤ r + 130 + 6 * q
+
+pub record All-begun (codec : Codec) (R : ℕ) (k : Kept) (q : ℕ) (w : Bool) (r : ℕ) (x x₁ : House) (d₁ : Device) (r₁ : ℕ) : Type 0 where
+  pub quiet : Quiet codec R true d₁ x₁ k
+  pub fits : Fits x₁
+  pub same : Untouched w x x₁
+  pub active : x₁ .tapes .active ≡ passive x
+  pub generation : x₁ .tapes .generation ≡ next-generation (x .tapes .generation)
+  pub used : x₁ .tapes .used ≤ 130 + lines-records (directory k)
+  pub count : r₁ ≤ r + 130 + 6 * q
+
+-- THE SAME where the machine counts all records of the tape that counts
+pub record Some-carried (codec : Codec) (R : ℕ) (live : Bool) (k : Kept) (q r : ℕ) (x x₁ : House) (d₁ : Device) (r₁ : ℕ) : Type 0 where
+  pub busy : Busy codec R live d₁ x₁ k
+  pub fits : Fits x₁
+  pub same : Untouched (x .carrying .waking) x x₁
+  pub active : x₁ .tapes .active ≡ x .tapes .active
+  pub generation : x₁ .tapes .generation ≡ x .tapes .generation
+  pub used : x₁ .tapes .used ≡ x .tapes .used
+  pub waits : waiting (x .tapes .active) (x₁ .store .dir) + q ≡ waiting (x .tapes .active) (x .store .dir)
+  pub shares : x₁ .tapes .other + records-on (passive x) (x .store .dir) (directory k) ≡ x .tapes .other + records-on (passive x) (x₁ .store .dir) (directory k)
+  pub count : r₁ ≤ r + 6 * q
+
+pub record Some-begun (codec : Codec) (R : ℕ) (live : Bool) (k : Kept) (q : ℕ) (w : Bool) (r : ℕ) (x x₁ : House) (d₁ : Device) (r₁ : ℕ) : Type 0 where
+  pub busy : Busy codec R live d₁ x₁ k
+  pub fits : Fits x₁
+  pub same : Untouched w x x₁
+  pub active : x₁ .tapes .active ≡ x .tapes .active
+  pub generation : x₁ .tapes .generation ≡ x .tapes .generation
+  pub used : x₁ .tapes .used ≡ x .tapes .used
+  pub waits : waiting (x .tapes .active) (x₁ .store .dir) + q ≡ length (x .store .dir)
+  pub shares : x₁ .tapes .other ≤ 130 + records-on (passive x) (x₁ .store .dir) (directory k)
+  pub count : r₁ ≤ r + 130 + 6 * q
+
+pub some-carried : {codec : Codec} {R : ℕ} {live : Bool} {k : Kept} {q r : ℕ} {x x₁ : House} {d₁ : Device} {r₁ : ℕ} →
+    Some-carried-at codec R (x .tapes .used) live k q r x x₁ d₁ r₁ → Some-carried codec R live k q r x x₁ d₁ r₁
+some-carried {codec} h = record {
+  busy = at-busy codec (sym (h .used)) (h .busy); fits = h .fits; same = h .same; active = h .active; generation = h .generation; used = h .used; waits = h .waits; shares = h .shares; count = h .count }
+
+pub some-begun : {codec : Codec} {R : ℕ} {live : Bool} {k : Kept} {q : ℕ} {w : Bool} {r : ℕ} {x x₁ : House} {d₁ : Device} {r₁ : ℕ} →
+    Some-begun-at codec R (x .tapes .used) live k q w r x x₁ d₁ r₁ → Some-begun codec R live k q w r x x₁ d₁ r₁
+some-begun {codec} h = record {
+  busy = at-busy codec (sym (h .used)) (h .busy); fits = h .fits; same = h .same; active = h .active; generation = h .generation; used = h .used; waits = h .waits; shares = h .shares; count = h .count }

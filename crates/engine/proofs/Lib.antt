@@ -8,3 +8,4 @@ pub mod CompactPiece
 pub mod CompactCarry
 pub mod Setup
 pub mod CompactBegin
+pub mod Compact

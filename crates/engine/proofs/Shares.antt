@@ -11,7 +11,7 @@ use Rattle.std.proofs.shelf.Tests.{eq-eqb, ne-eqb, eqb-true, ltb-true, ltb-fals
 use Rattle.plain.specs.Pattern.{pick, added-up}
 use Rattle.plain.specs.House.{File}
 use Rattle.plain.proofs.Basics.{added-append}
-use Rattle.journal.specs.Log.{Position, hole, Rec, Packed, Alike, none, more}
+use Rattle.journal.specs.Log.{Position, hole, Rec, Packed, Alike, none, more, On}
 use Rattle.journal.proofs.Compaction.{Either}
 use Rattle.journal.proofs.Waiting.{waiting, Behind}
 use Rattle.commands.specs.Kept.{Kept, kept-weight, lines-size, file-size, file-lines, directory}
@@ -120,6 +120,10 @@ pub either-lies : {K : Type 0} {x y : ℕ} {X Y : List (Rec K)} {D : List Positi
 either-lies none = nowhere
 either-lies (more (inl h) k) = somewhere (inl (h .on)) (either-lies k)
 either-lies (more (inr h) k) = somewhere (inr (h .on)) (either-lies k)
+
+pub on-lies : {K : Type 0} {t : ℕ} {T : List (Rec K)} {D : List Position} {ls : List Packed} → Alike (On T t) D ls → Lies t t D
+on-lies none = nowhere
+on-lies (more h k) = somewhere (inl (h .on)) (on-lies k)
 
 pub records-both : {x y : ℕ} {D : List Position} → (y ≡ x → ⊥) → Lies x y D → (ls : List (List ℕ)) → length D ≡ length ls → records-on x D ls + records-on y D ls ≡ lines-records ls
 unfolding records-on
