@@ -1,2 +1,4 @@
 pub mod Facts
 pub mod Course
+pub mod PassDevices
+pub mod Finish
