@@ -2,3 +2,4 @@ pub mod Facts
 pub mod Course
 pub mod PassDevices
 pub mod Finish
+pub mod PutRecords
