@@ -3,3 +3,4 @@ pub mod Course
 pub mod PassDevices
 pub mod Finish
 pub mod PutRecords
+pub mod PutPass
