@@ -4,3 +4,4 @@ pub mod PassDevices
 pub mod Finish
 pub mod PutRecords
 pub mod PutPass
+pub mod PutBrings
