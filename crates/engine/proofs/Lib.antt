@@ -5,3 +5,4 @@ pub mod Finish
 pub mod PutRecords
 pub mod PutPass
 pub mod PutBrings
+pub mod Splices
