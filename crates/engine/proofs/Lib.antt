@@ -6,3 +6,4 @@ pub mod PutRecords
 pub mod PutPass
 pub mod PutBrings
 pub mod Splices
+pub mod PutCommit

@@ -58,7 +58,7 @@ put-piece-is true ph n P l ls (suc j) x = refl
 put-piece-is false ph n P l ls zero x = refl
 put-piece-is false ph n P l ls (suc j) x = refl
 
-tapes-counted : (second : Bool) {t : Tapes} (n : ℕ) → n ≤ 1048576 → Tapes-fit t → Tapes-fit (counted second n t)
+pub tapes-counted : (second : Bool) {t : Tapes} (n : ℕ) → n ≤ 1048576 → Tapes-fit t → Tapes-fit (counted second n t)
 tapes-counted true n l f = record { room = f .room; active = f .active; generation = f .generation; used = f .used; other = l; cursor = f .cursor }
 tapes-counted false n l f = record { room = f .room; active = f .active; generation = f .generation; used = l; other = f .other; cursor = f .cursor }
 
