@@ -109,3 +109,56 @@ module _ (codec : Codec) (R n : ℕ) {w : Plain} {t : List ℕ} (C : Course R w 
     safe = first-safe codec b log (h .device-room) l (h .other-fits);
     room = first-room codec b log (h .device-room) l;
   }
+
+  -- memory then is what the tape has
+  committed-small : (x : House) (k : Kept) → x .store .small ≡ smalls-of k → Bringing k (C .kept) (x .job .lines) (x .job .plan .splice) (news-of x) → updated (news-of x) (x .store .small) ≡ smalls-of (C .kept)
+  committed-small x k s b = ap (updated (news-of x)) s ∙ sym (b .numbers)
+
+  cursor-first : (c from gone came : ℕ) → c ≡ 0 → cursor-after c from gone came ≡ 0
+  cursor-first c from gone came e = ap (λ z. cursor-after z from gone came) e ∙ ap (λ b. pick b 0 (pick (leb 0 (from + gone)) (from + came) (0 - gone + came))) (leb·zero from)
+
+  pub pass-quiet :
+      (x : House) {d : Device} {k : Kept} {ss : List (List ℕ)} {r j : ℕ} → Quiet codec R true d x k → Held w k → Fits x →
+      Bringing k (C .kept) (x .job .lines) (x .job .plan .splice) (news-of x) → x .tapes .used + need x ≤ threshold R →
+      On-course codec R n C ss (more-rows (x .job .plan .rows) (C .kept .files)) r j → need x ≤ j → 0 ≡ C .reply →
+      Leads codec R n C (after-did d ss r (start-pass false x))
+  pass-quiet x {d} {k} {ss} {r} {j} h held f b l o g e =
+      let a : ℕ = x .tapes .active in
+      let m : ℕ = x .tapes .used in
+      let here = h .powered in
+      let fits : m + need x ≤ R = omega arith in
+      let p : Passing codec R n C false x d k m = passing-first x d k here held f b (h .log) fits in
+      let P : List Position = positions a m (packs (x .job .lines)) in
+      let i : ℕ = m + lines-records (x .job .lines) in
+      let most : suc i ≤ 1048576 = let q = here .at-most in omega arith in
+      let d₁ : Device = all-longer d a (pages (brought x)) in
+      let y : House = committed false commit-fast i P x in
+      let long : length (x .store .dir) ≡ length (packs (directory k)) = alike-length (h .log .keeps .holds) in
+      let g₁ = dir-fits x k (C .kept) P long (positions-count a m (x .job .lines) ∙ sym (length-map (x .job .lines) _)) (here .small) b in
+      let c₁ = cursor-first (x .tapes .cursor) (x .job .plan .splice .from) (x .job .plan .splice .gone) (length P) (h .cursor) in
+      let q₁ = positions-fit a m (x .job .lines) (p .below) (omega arith) in
+      let f₁ : (ph : Phase) → Fits (committed false ph i P x) = λ ph. fits-committed false ph i P f most q₁ g₁ (omega (arith, c₁)) in
+      let log₁ = first-fast codec b (h .log) in
+      let beside : tape-of (fastened d₁ a) (passive x) ≡ tape-of d (passive x) = with-tape-beside d₁ _ (h .log .layout .sides) ∙ all-longer-beside d (pages (brought x)) (h .log .layout .sides) in
+      let rest : Rest codec R (fastened d₁ a) y (C .kept) = quiet (record {
+        powered = record {
+          machine-room = here .machine-room;
+          device-room = fastened-room d₁ a ∙ all-longer-room d a (pages (brought x)) ∙ here .device-room;
+          enough = here .enough;
+          at-most = here .at-most;
+          light = C .light;
+          small = committed-small x k (here .small) b;
+          other-fits = subst (λ z. length (z .records) ≤ R) (sym beside) (here .other-fits);
+          used-fits = omega arith;
+        };
+        not-busy = h .not-busy;
+        cursor = c₁;
+        log = subst (λ z. One codec (fastened d₁ a) a (passive x) (x .tapes .generation) z (y .store .dir) (C .kept)) (let q : m + need x ≡ suc i = omega arith in q) log₁;
+      }) (omega arith) in
+      let o₁ : On-course codec R n C ss (more-rows (x .job .plan .rows) (C .kept .files)) (r + need x) 0 = record { rows = o .rows; count = let q = o .count in omega arith } in
+      pass-goes codec R n C p o (x .phase) (committed false commit-put i P x) (λ ph. commit-alone ph i P x (h .not-busy))
+      (go-next commit-put refl (f₁ commit-put) (stops codec R n C k held (here .light) (p .safe (brought x) [] (append-nil (brought x))) o)
+      (fastens d₁ a (p .below)
+      (go-next commit-fast refl (f₁ commit-fast) (stops-then codec R n C (fastened d₁ a) (rest-off codec rest) o)
+      (chosen (λ (z : Does). Leads codec R n C (after-did (fastened d₁ a) ss (r + need x) z)) (x .tapes .busy) false (start-pass true y) (finish y) (h .not-busy)
+      (finish-leads codec R n C y rest (f₁ commit-fast) o₁ e)))))
