@@ -7,3 +7,4 @@ pub mod PutPass
 pub mod PutBrings
 pub mod Splices
 pub mod PutCommit
+pub mod PutBoth

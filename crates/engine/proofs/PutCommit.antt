@@ -111,7 +111,7 @@ module _ (codec : Codec) (R n : ℕ) {w : Plain} {t : List ℕ} (C : Course R w 
   }
 
   -- memory then is what the tape has
-  committed-small : (x : House) (k : Kept) → x .store .small ≡ smalls-of k → Bringing k (C .kept) (x .job .lines) (x .job .plan .splice) (news-of x) → updated (news-of x) (x .store .small) ≡ smalls-of (C .kept)
+  pub committed-small : (x : House) (k : Kept) → x .store .small ≡ smalls-of k → Bringing k (C .kept) (x .job .lines) (x .job .plan .splice) (news-of x) → updated (news-of x) (x .store .small) ≡ smalls-of (C .kept)
   committed-small x k s b = ap (updated (news-of x)) s ∙ sym (b .numbers)
 
   cursor-first : (c from gone came : ℕ) → c ≡ 0 → cursor-after c from gone came ≡ 0
