@@ -146,3 +146,51 @@ module _ (codec : Codec) (R n : ℕ) {w : Plain} {t : List ℕ} (C : Course R w 
           behind = behind-end;
           cursor = cursor-end;
         }) (subst (λ i. Carrying R (threshold R) (suc first-count) i V S J) e₂ (subst (λ i. Carrying R (threshold R) i (x .tapes .other + need x) V S J) e₁ c))
+
+  -- ON BOTH TAPES, given what keeps them from getting full then
+  pub pass-busy :
+      (x : House) {d : Device} {k : Kept} {ss : List (List ℕ)} {r j : ℕ} (S : ℕ) → Busy codec R true d x k → Held w k → Fits x →
+      Bringing k (C .kept) (x .job .lines) (x .job .plan .splice) (news-of x) → Only-new (x .job .plan .splice .source) (x .job .lines) →
+      x .tapes .used + need x ≤ R → x .tapes .other + need x ≤ R →
+      Carrying R (threshold R) (x .tapes .used + need x) (x .tapes .other + need x)
+      (records-on (passive x) (apply (x .job .plan .splice) (x .store .dir) (positions (passive x) (x .tapes .other) (packs (x .job .lines)))) (directory (C .kept))) S
+      (waiting (x .tapes .active) (apply (x .job .plan .splice) (x .store .dir) (positions (passive x) (x .tapes .other) (packs (x .job .lines))))) →
+      On-course codec R n C ss (more-rows (x .job .plan .rows) (C .kept .files)) r j → 2 * need x ≤ j → 0 ≡ C .reply →
+      Leads codec R n C (after-did d ss r (start-pass false x))
+  pass-busy x {d} {k} {ss} {r} {j} S h held f b only fits more-fits c o g e =
+      let a : ℕ = x .tapes .active in
+      let here = h .powered in
+      let one = lifecycle.copying-active updated no-state Replay-fits record-of (codec .torn) (h .log) in
+      let p : Passing codec R n C false x d k (x .tapes .used) = passing-first codec R n C x d k here held f b one fits in
+      let i₁ : ℕ = x .tapes .used + lines-records (x .job .lines) in
+      let i₂ : ℕ = x .tapes .other + lines-records (x .job .lines) in
+      let P₁ : List Position = positions a (x .tapes .used) (packs (x .job .lines)) in
+      let P₂ : List Position = positions (passive x) (x .tapes .other) (packs (x .job .lines)) in
+      let d₁ : Device = all-longer d a (pages (brought x)) in
+      let d₂ : Device = fastened d₁ a in
+      let y : Phase → House = λ ph. midway false ph (suc i₁) P₁ [] 0 x in
+      let z : House = committed true commit-put i₂ P₂ (y commit-fast) in
+      let f₁ : (ph : Phase) → Fits (y ph) = between-fits x h f b only fits more-fits in
+      let two = first-fast codec b one in
+      let room₂ = between-room x h f b only fits more-fits in
+      let long₂ = between-long x h f b only fits more-fits in
+      let p₂ : Passing codec R n C true (y commit-fast) d₂ k (x .tapes .other) = record {
+        held = held;
+        light = here .light;
+        fits = f₁ commit-fast;
+        below = sides-below (h .log .layout .sides) .1;
+        few = b .few;
+        most = let q = here .at-most in omega arith;
+        safe = second-safe codec b two room₂ fits long₂ more-fits;
+        room = second-room codec b two room₂ fits long₂ more-fits;
+      } in
+      let o₁ : On-course codec R n C ss (more-rows (x .job .plan .rows) (C .kept .files)) (r + need x) (need x) = record { rows = o .rows; count = let q = o .count in omega arith } in
+      let o₂ : On-course codec R n C ss (more-rows (x .job .plan .rows) (C .kept .files)) (r + need x + need x) 0 = record { rows = o .rows; count = let q = o .count in omega arith } in
+      pass-goes codec R n C p o (x .phase) (y commit-put) (λ ph. commit-first ph i₁ P₁ x (h .is-busy))
+      (go-next commit-put refl (f₁ commit-put) (stops codec R n C k held (here .light) (p .safe (brought x) [] (append-nil (brought x))) o)
+      (fastens d₁ a (p .below)
+      (go-next commit-fast refl (f₁ commit-fast) (stops codec R n C k held (here .light) (safe-here p₂) o)
+      (chosen (λ (v : Does). Leads codec R n C (after-did d₂ ss (r + need x) v)) (x .tapes .busy) true (start-pass true (y commit-fast)) (finish (y commit-fast)) (h .is-busy)
+      (pass-goes codec R n C p₂ o₁ commit-fast z (λ ph. commit-second ph i₂ P₂ (y commit-fast))
+      (go-next commit-put refl (end-fits x h f b only fits more-fits) (stops codec R n C k held (here .light) (p₂ .safe (brought x) [] (append-nil (brought x))) o₁)
+      (finish-leads codec R n C z (end-rest x h f b only fits more-fits S c) (end-fits x h f b only fits more-fits) o₂ e)))))))
