@@ -159,9 +159,9 @@ waiting-after x y c k D new d h =
     omega (arith, a, b, e)
 
 -- ROOM
-pub lines-few : (ls : List (List ℕ)) → lines-records ls ≤ 3 * length ls
-lines-few [] = omega arith
-lines-few (l ∷ ls) = let r = lines-few ls in let q = records-few (length l) in omega arith
+pub lines-most : (ls : List (List ℕ)) → lines-records ls ≤ 3 * length ls
+lines-most [] = omega arith
+lines-most (l ∷ ls) = let r = lines-most ls in let q = records-few (length l) in omega arith
 
 pub rooms-here : (R : ℕ) → 1024 ≤ R → Rooms R (threshold R)
 rooms-here R h = record { enough = h; below = omega arith; above = omega arith }
