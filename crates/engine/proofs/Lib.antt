@@ -8,3 +8,12 @@ pub mod PutBrings
 pub mod Splices
 pub mod PutCommit
 pub mod PutBoth
+pub mod Devices
+pub mod Pieces
+pub mod Shares
+pub mod CompactFacts
+pub mod CompactPiece
+pub mod CompactCarry
+pub mod Setup
+pub mod CompactBegin
+pub mod Compact
