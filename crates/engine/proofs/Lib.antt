@@ -1,13 +1,5 @@
 pub mod Facts
 pub mod Course
-pub mod PassDevices
-pub mod Finish
-pub mod PutRecords
-pub mod PutPass
-pub mod PutBrings
-pub mod Splices
-pub mod PutCommit
-pub mod PutBoth
 pub mod Devices
 pub mod Pieces
 pub mod Shares
@@ -17,4 +9,12 @@ pub mod CompactCarry
 pub mod Setup
 pub mod CompactBegin
 pub mod Compact
+pub mod PassDevices
+pub mod Finish
+pub mod PutRecords
+pub mod PutPass
+pub mod PutBrings
+pub mod Splices
+pub mod PutCommit
+pub mod PutBoth
 pub mod PutLeads

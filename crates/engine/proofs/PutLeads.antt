@@ -1,8 +1,8 @@
 -- Where putting a command's records on leads, on one tape or on both, from the room that there was when the command began. Assumes nothing.
-use mathlib.Core.Path.{_≡_, refl, sym, ap, subst, _∙_}
-use mathlib.Core.Bool.{Bool, true, false}
-use mathlib.Core.List.{List, [], _∷_, _++_}
-use Prim.Native.Nat.{ℕ, zero, suc, _+_, _*_, _-_, _≤_, _<_}
+use mathlib.Core.Path.{_≡_, sym, subst, _∙_}
+use mathlib.Core.Bool.{true, false}
+use mathlib.Core.List.{List}
+use Prim.Native.Nat.{ℕ, suc, _+_, _*_, _≤_}
 use native.Mathlib.Omega.{arith}
 use lib.ListN.{length, length-map}
 use Rattle.plain.specs.House.{Plain}
@@ -17,7 +17,7 @@ use Rattle.commands.specs.Held.{Held}
 use Rattle.commands.specs.Turn.{more-rows}
 use Rattle.engine.specs.State.{House, passive}
 use Rattle.engine.specs.Fits.{Fits}
-use Rattle.engine.specs.Packing.{lines-records, packs, records-on}
+use Rattle.engine.specs.Packing.{packs, records-on}
 use Rattle.engine.specs.Machine.{need, news-of, start-pass, threshold}
 use Rattle.engine.proofs.Facts.{Codec, Quiet, Busy}
 use Rattle.engine.proofs.Course.{Course, Leads, On-course}
