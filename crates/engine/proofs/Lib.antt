@@ -1,13 +1,5 @@
 pub mod Facts
 pub mod Course
-pub mod PassDevices
-pub mod Finish
-pub mod PutRecords
-pub mod PutPass
-pub mod PutBrings
-pub mod Splices
-pub mod PutCommit
-pub mod PutBoth
 pub mod Devices
 pub mod Pieces
 pub mod Shares
@@ -18,3 +10,12 @@ pub mod Setup
 pub mod CompactBegin
 pub mod Compact
 pub mod Courses
+pub mod PassDevices
+pub mod Finish
+pub mod PutRecords
+pub mod PutPass
+pub mod PutBrings
+pub mod Splices
+pub mod PutCommit
+pub mod PutBoth
+pub mod PutLeads
