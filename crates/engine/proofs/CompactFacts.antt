@@ -157,6 +157,18 @@ positions-set (suc i) (more g h) f = more g (positions-set i h f)
 pub fits-phase : {x : House} (ph : Phase) → Fits x → Fits (at-phase ph x)
 fits-phase ph f = record { tapes = f .tapes; store = f .store; job = f .job; walking = f .walking; putting = f .putting; carrying = f .carrying }
 
+-- and the facts hold whatever the last act was
+module _ (codec : Codec) {R : ℕ} {d : Device} {x : House} {k : Kept} (ph : Phase) where
+  pub powered-phase : Powered codec R d x k → Powered codec R d (at-phase ph x) k
+  powered-phase h = record {
+    machine-room = h .machine-room; device-room = h .device-room; enough = h .enough; at-most = h .at-most; light = h .light; small = h .small; other-fits = h .other-fits; used-fits = h .used-fits }
+
+  pub quiet-phase : {live : Bool} → Quiet codec R live d x k → Quiet codec R live d (at-phase ph x) k
+  quiet-phase h = record { powered = powered-phase (h .powered); not-busy = h .not-busy; cursor = h .cursor; log = h .log }
+
+  pub busy-phase : {live : Bool} → Busy codec R live d x k → Busy codec R live d (at-phase ph x) k
+  busy-phase h = record { powered = powered-phase (h .powered); is-busy = h .is-busy; log = h .log; behind = h .behind; cursor = h .cursor }
+
 -- WHAT COMES OF CARRYING
 -- what is the same in both
 pub record Untouched (w : Bool) (x x₁ : House) : Type 0 where

@@ -9,3 +9,5 @@ pub mod CompactCarry
 pub mod Setup
 pub mod CompactBegin
 pub mod Compact
+pub mod WakeFacts
+pub mod WakeReplay
