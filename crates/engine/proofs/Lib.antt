@@ -11,3 +11,5 @@ pub mod CompactBegin
 pub mod Compact
 pub mod WakeFacts
 pub mod WakeReplay
+pub mod WakeFresh
+pub mod Wake
