@@ -1,29 +1,30 @@
 -- Waking up, and that a stop at rest leaves what is kept. Assumes nothing.
 use mathlib.Core.Path.{_≡_, refl, sym, ap, subst, _∙_}
-use mathlib.Core.Bool.{Bool, true, false}
-use mathlib.Core.List.{List, [], _∷_, _++_, map, append-nil}
+use mathlib.Core.Bool.{false}
+use mathlib.Core.List.{List, [], append-nil}
 use mathlib.Core.Logic.{_⊎_, inl, inr}
-use Prim.Native.Nat.{ℕ, zero, suc, _+_, _*_, _-_, _≤_, _<_}
+use Prim.Native.Nat.{ℕ, suc, _*_, _≤_}
 use native.Mathlib.Omega.{arith}
 use lib.Dec.{eqb}
 use lib.ListN.{length, length-map}
 use Rattle.plain.specs.Pattern.{pick}
 use Rattle.plain.specs.House.{Plain, core}
-use Rattle.plain.specs.Device.{Device, Page, tape-of, stopped, read-record}
-use Rattle.plain.specs.Promise.{May}
-use Rattle.plain.specs.Run.{on, page, next}
-use Rattle.journal.specs.Log.{Position, Rec, State, state, Packed, Which, neither, only, choose, chosen, head-of, generation, Sides, ahead, back, tapes}
-use Rattle.journal.specs.Small.{Small, News, updated, no-state}
+use Rattle.plain.specs.Device.{Device, tape-of, stopped, read-record, fresh}
+use Rattle.plain.specs.Promise.{May, first-plain}
+use Rattle.plain.specs.Run.{on, page}
+use Rattle.journal.specs.Log.{Position, Rec, state, neither, only, choose, chosen, head-of, generation, Sides, ahead, back, tapes}
+use Rattle.journal.specs.Small.{News, updated, no-state}
 use Rattle.journal.specs.Pages.{record-of}
 use Rattle.journal.proofs.Running.{Asleep}
 use Rattle.journal.proofs.Machine.{Where, going, Goes, is-going, after-did, Awoke}
 use Rattle.journal.proofs.Contents.{layout-old-is}
 use Rattle.journal.proofs.Lifecycle as lifecycle
-use Rattle.commands.specs.Kept.{Kept, kept-weight}
+use Rattle.journal.proofs.Recovery as recovery
+use Rattle.commands.specs.Kept.{Kept, kept-weight, nothing-kept}
 use Rattle.commands.specs.Smalls.{smalls-of}
 use Rattle.commands.specs.Held.{Held}
-use Rattle.engine.specs.State.{House, Phase, idle, wake-first, wake-second, replaying, starting, tapes-of}
-use Rattle.engine.specs.Fits.{Fits, Replay-fits}
+use Rattle.engine.specs.State.{House, wake-first, wake-second, replaying, tapes-of}
+use Rattle.engine.specs.Fits.{Replay-fits}
 use Rattle.engine.specs.Machine.{machine, answers, wake-by}
 use Rattle.engine.proofs.Facts.{Codec, Off-at, Off, Idle, Rest, quiet, busy, lines-of-kept}
 use Rattle.engine.proofs.Course.{go-record, asks}
@@ -32,6 +33,15 @@ use Rattle.engine.proofs.CompactFacts.{quiet-rests, busy-rests}
 use Rattle.engine.proofs.WakeFacts.{waking, waking-fits, tapes-fit, nothing-fits, off-stays, head-is, off-generations, asleep}
 use Rattle.engine.proofs.WakeReplay.{Found, replay-leads}
 use Rattle.engine.proofs.WakeFresh.{no-heads, fresh-leads}
+
+-- THE FIRST DEVICE keeps nothing
+pub off-first : (R n : ℕ) → Held first-plain nothing-kept → Off R n (fresh R) first-plain
+off-first R n held = record {
+  kept = nothing-kept;
+  held = held;
+  light = omega arith;
+  off = record { room = refl; fast-first = refl; fast-second = refl; fits-first = omega arith; fits-second = omega arith; log = recovery.empty refl refl };
+}
 
 -- A STOP AT REST
 pub rests : (codec : Codec) (R n : ℕ) (x : House) (d : Device) (w : Plain) → Idle codec R n x d w → (cs : List ℕ) → Off R n (stopped d cs) w

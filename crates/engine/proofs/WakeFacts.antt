@@ -1,15 +1,15 @@
 -- Waking up: the states of the machine on the way fit, a device that nothing is loose on stays as it is, and what its first records say. Assumes nothing.
 use mathlib.Core.Path.{_≡_, refl, sym, ap, subst, _∙_}
-use mathlib.Core.Bool.{Bool, true, false}
-use mathlib.Core.List.{List, [], _∷_, _++_, map}
-use mathlib.Core.Logic.{_⊎_, inl, inr}
-use Prim.Native.Nat.{ℕ, zero, suc, _+_, _*_, _-_, _≤_, _<_}
+use mathlib.Core.Bool.{Bool, false}
+use mathlib.Core.List.{List, [], _∷_}
+use mathlib.Core.Logic.{inl, inr}
+use Prim.Native.Nat.{ℕ, _*_, _≤_, _<_}
 use native.Mathlib.Omega.{arith}
 use lib.ListN.{length, getD}
 use Rattle.plain.specs.House.{Plain, core}
-use Rattle.plain.specs.Device.{Device, Page, Tape, tape, tape-of, left, stopped, read-record}
+use Rattle.plain.specs.Device.{Device, Tape, tape, left, stopped, read-record}
 use Rattle.plain.specs.Promise.{May}
-use Rattle.journal.specs.Log.{Position, Rec, broken, State, state, head-of, generation, next-generation, Alike, none, more, Sides, ahead, back, In-cycle, cycle-1, cycle-2, cycle-3, Packed, Tapes, tapes, replay}
+use Rattle.journal.specs.Log.{Position, Rec, broken, State, state, head-of, generation, Alike, none, more, Sides, ahead, back, Packed, Tapes, tapes, replay}
 use Rattle.journal.specs.Small.{Small, News, updated, no-state}
 use Rattle.journal.specs.Pages.{record-of}
 use Rattle.journal.proofs.Running.{Asleep}
@@ -22,9 +22,10 @@ use Rattle.commands.specs.Kept.{Kept, kept-weight}
 use Rattle.commands.specs.Held.{Held}
 use Rattle.engine.specs.State as machine-state
 use Rattle.engine.specs.State.{House, Phase, house, no-job, walking-of, putting-of, carrying-of, tapes-of}
-use Rattle.engine.specs.Fits.{Fits, Word, Replay-fits, Store-fits, Tapes-fit, Small-fits, Position-fits, Positions-fit}
+use Rattle.engine.specs.Fits.{Fits, Replay-fits, Store-fits, Tapes-fit, Positions-fit}
 use Rattle.engine.specs.Fits as fits
 use Rattle.engine.proofs.Facts.{Codec, Off-at, Off}
+use Rattle.engine.proofs.Devices.{cycle-bounds}
 use Rattle.engine.proofs.Setup.{no-state-fits}
 
 -- THE MACHINE before any command
@@ -37,9 +38,15 @@ waking-fits f g = record {
   store = g;
   job = record {
     plan = record {
-      after = omega arith; upto = omega arith; update = tt;
+      after = omega arith;
+      upto = omega arith;
+      update = tt;
       splice = record { from = omega arith; gone = omega arith; source = tt };
-      came = omega arith; span = omega arith; count = omega arith; current = omega arith; rows = tt;
+      came = omega arith;
+      span = omega arith;
+      count = omega arith;
+      current = omega arith;
+      rows = tt;
     };
     name = omega arith;
     name-bytes = refl;
@@ -88,14 +95,9 @@ head-is codec d t = ap head-of (reads record-of d t 0 (codec .empty)) ∙ first 
     first [] = refl
     first (r ∷ T) = refl
 
-cycle-low : {g : ℕ} → In-cycle g → g ≤ 3
-cycle-low cycle-1 = omega arith
-cycle-low cycle-2 = omega arith
-cycle-low cycle-3 = omega arith
-
 pub off-generations : (d : Tapes News) {ls : List Packed} {s : Small} → recovery.Off updated no-state Replay-fits d ls s → (generation (d 0) ≤ 3) × (generation (d 1) ≤ 3)
 off-generations d (recovery.empty a b) = omega arith
-off-generations d (recovery.counts {g = g} sides cycle e n k) = pair sides (let h = cycle-low cycle in omega arith) (elim n [ inl z ↦ omega (arith, z) | inr z ↦ omega (arith, z, cycle-low (cycle-next cycle)) ])
+off-generations d (recovery.counts {g = g} sides cycle e n k) = pair sides (let h = cycle-bounds cycle in omega arith) (elim n [ inl z ↦ omega (arith, z) | inr z ↦ omega (arith, z, cycle-bounds (cycle-next cycle)) ])
   where
     pair : {a b : ℕ} → Sides a b → generation (d a) ≤ 3 → generation (d b) ≤ 3 → (generation (d 0) ≤ 3) × (generation (d 1) ≤ 3)
     pair ahead p q = (p, q)

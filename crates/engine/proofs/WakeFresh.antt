@@ -1,22 +1,20 @@
 -- Waking up where no tape counts: the first one begins with a head, and nothing is kept. Assumes nothing.
 use mathlib.Core.Path.{_≡_, refl, sym, ap, subst, _∙_}
 use mathlib.Core.Bool.{Bool, true, false}
-use mathlib.Core.List.{List, [], _∷_, _++_, map, append-nil}
-use mathlib.Core.Logic.{_⊎_, inl, inr}
-use Prim.Native.Nat.{ℕ, zero, suc, _+_, _*_, _-_, _/_, _≤_, _<_}
+use mathlib.Core.List.{List, [], _∷_, _++_, append-nil}
+use Prim.Native.Nat.{ℕ, zero, suc, _*_, _≤_, _<_}
 use native.Mathlib.Omega.{arith}
 use lib.Dec.{eqb}
 use lib.ListN.{length, getD}
 use Rattle.plain.specs.Pattern.{pick}
 use Rattle.plain.specs.House.{Plain, core}
-use Rattle.plain.specs.Device.{Device, Page, tape-of, stopped, longer, fastened, anew}
+use Rattle.plain.specs.Device.{Device, Page, stopped, longer, fastened, anew}
 use Rattle.plain.specs.Promise.{May}
-use Rattle.plain.specs.Run.{next}
-use Rattle.journal.specs.Log.{Rec, head, State, state, Packed, Which, neither, only, choose, chosen, generation, next-generation, begin-records, Sides, ahead, back, tapes}
-use Rattle.journal.specs.Small.{Small, News, updated, no-state}
+use Rattle.journal.specs.Log.{head, state, neither, only, choose, generation, next-generation, ahead, tapes}
+use Rattle.journal.specs.Small.{updated, no-state}
 use Rattle.journal.specs.Pages.{page-of, record-of}
 use Rattle.journal.proofs.Running.{Asleep}
-use Rattle.journal.proofs.Machine.{Where, going, over, Goes, is-over, after-did, Awoke}
+use Rattle.journal.proofs.Machine.{Where, Goes, is-over, after-did, Awoke}
 use Rattle.journal.proofs.Contents.{Layout, wake-layout, layout-begin-old, layout-swap, layout-put-old}
 use Rattle.journal.proofs.Recovery as recovery
 use Rattle.journal.proofs.Lifecycle as lifecycle
@@ -25,8 +23,8 @@ use Rattle.commands.specs.Smalls.{smalls-of}
 use Rattle.commands.specs.Held.{Held}
 use Rattle.engine.specs.State.{House, Phase, idle, fresh-begun, fresh-head, fresh-fast, tapes-of}
 use Rattle.engine.specs.Fits.{Fits, Record-fits, Replay-fits}
-use Rattle.engine.specs.Machine.{machine, wake-by, threshold}
-use Rattle.engine.proofs.Facts.{Codec, Off-at, Off, Idle, Rest, quiet, Quiet, lines-of-kept}
+use Rattle.engine.specs.Machine.{machine, wake-by}
+use Rattle.engine.proofs.Facts.{Codec, Off-at, Off, Idle, quiet, Quiet, lines-of-kept}
 use Rattle.engine.proofs.Course.{go-next, puts, begins, fastens}
 use Rattle.engine.proofs.Devices.{left-short, firm-off, room-for}
 use Rattle.engine.proofs.Setup.{no-state-fits}
@@ -44,9 +42,6 @@ no-heads zero zero e = (refl, refl)
 no-heads zero (suc h) e = absurd (let z : _≡_ {A = ℕ} 0 1 = cc in omega arith)
 no-heads (suc g) zero e = absurd (let z : _≡_ {A = ℕ} 0 1 = cc in omega arith)
 no-heads (suc g) (suc h) e = absurd (one-of (eqb (suc h) (next-generation (suc g))) e)
-
-first-record : Rec News
-first-record = head 1 0
 
 module _
     (codec : Codec) (R n : ℕ) (enough : 1024 ≤ R) (at-most : R ≤ 1048576) {w : Plain} (k : Kept) (held : Held w k) (light : kept-weight k ≤ 32 * R) (d : Device) (off : Off-at R d k)
@@ -104,9 +99,6 @@ module _
         (subst (λ r. Layout record-of headed 0 1 [] (r ∷ []) (tapes record-of d 1) []) (codec .reads (head 1 0) head-fits) (layout-put-old record-of layout first-page)) no-head-behind)
 
     -- the head is fast
-    first-house : Phase → House
-    first-house ph = waking ph (tapes-of (d .room) 0 1 1 false 0 0) (state [] [] no-state)
-
     first-quiet : (ph : Phase) → Quiet codec R true (fastened headed 0) (waking ph (tapes-of (d .room) 0 1 1 false 0 0) (state [] [] no-state)) k
     first-quiet ph = record {
       powered = record {
@@ -137,5 +129,14 @@ module _
         (go-next fresh-head refl (fits fresh-head) (can-stop headed headed-off)
         (fastens headed 0 (omega arith)
         (go-next fresh-fast refl (fits fresh-fast) (can-stop (fastened headed 0) (firm-off codec R k (quiet-firm codec (quiet-at codec (first-quiet fresh-fast)))))
-        (is-over (record { well = refl; silent = refl; holds = record {
-          kept = k; held = held; fits = fits idle; phase = refl; rest = quiet (first-quiet idle) (omega arith) } })))))))
+        (is-over (record {
+          well = refl;
+          silent = refl;
+          holds = record {
+            kept = k;
+            held = held;
+            fits = fits idle;
+            phase = refl;
+            rest = quiet (first-quiet idle) (omega arith);
+          };
+        })))))))

@@ -1,40 +1,38 @@
 -- Waking up where a tape counts: it is replayed, record by record, and then carried to the other tape as a whole. Assumes nothing.
 use mathlib.Core.Path.{_≡_, refl, sym, ap, subst, _∙_}
 use mathlib.Core.Bool.{Bool, true, false}
-use mathlib.Core.List.{List, [], _∷_, _++_, map, append-assoc, append-nil}
-use mathlib.Core.Logic.{_⊎_, inl, inr}
-use Prim.Native.Nat.{ℕ, zero, suc, _+_, _*_, _-_, _/_, _≤_, _<_}
+use mathlib.Core.List.{List, [], _∷_, _++_, append-assoc, append-nil}
+use Prim.Native.Nat.{ℕ, suc, _+_, _*_, _≤_}
 use native.Mathlib.Omega.{arith}
-use lib.ListN.{length, getD, length-append, length-map}
+use lib.ListN.{length, getD, length-append}
 use lib.Seq.{getD-at}
 use Rattle.std.proofs.shelf.Lists.{getD-past}
 use Rattle.std.proofs.shelf.Tests.{true≢false}
 use Rattle.plain.specs.House.{Plain, core}
-use Rattle.plain.specs.Device.{Device, Page, tape-of, stopped, read-record}
+use Rattle.plain.specs.Device.{Device, tape-of, stopped, read-record}
 use Rattle.plain.specs.Promise.{May}
-use Rattle.plain.specs.Run.{page, next}
-use Rattle.journal.specs.Log.{Position, Rec, head, line, copy, commit, broken, State, state, intact, Intact, after, replay, replay-from, Packed, Sides, ahead, back, tapes, generation}
+use Rattle.plain.specs.Run.{page}
+use Rattle.journal.specs.Log.{Position, Rec, head, line, copy, commit, broken, State, state, intact, Intact, after, replay, replay-from, tapes}
 use Rattle.journal.specs.Small.{Small, News, updated, no-state}
 use Rattle.journal.specs.Pages.{record-of}
 use Rattle.journal.proofs.Running.{Asleep}
-use Rattle.journal.proofs.Machine.{Where, going, over, Goes, is-over, after-did, Awoke}
-use Rattle.journal.proofs.Contents.{reads, layout-old-is}
+use Rattle.journal.proofs.Machine.{Where, going, Goes, is-over, after-did, Awoke}
+use Rattle.journal.proofs.Contents.{reads}
 use Rattle.journal.proofs.Replay.{intact-append, replay-from-broken}
 use Rattle.journal.proofs.Stored.{replay-next}
 use Rattle.journal.proofs.Through.{Through, last, then}
 use Rattle.journal.proofs.Lifecycle as lifecycle
-use Rattle.commands.specs.Kept.{Kept, kept-weight, directory}
+use Rattle.commands.specs.Kept.{Kept, kept-weight}
 use Rattle.commands.specs.Smalls.{smalls-of}
 use Rattle.commands.specs.Held.{Held}
-use Rattle.engine.specs.State.{House, Phase, idle, replaying, at-phase, tapes-of, with-store, with-pending, passive}
+use Rattle.engine.specs.State.{House, idle, replaying, tapes-of, with-store, with-pending}
 use Rattle.engine.specs.Fits.{Fits, Replay-fits, none}
-use Rattle.engine.specs.Packing.{lines-records}
-use Rattle.engine.specs.Machine.{machine, go-on, begin-other, replay-record, no-limit, threshold}
-use Rattle.engine.proofs.Facts.{Codec, Off-at, Off, Idle, Rest, quiet, lines-of-kept}
+use Rattle.engine.specs.Machine.{machine, begin-other, replay-record, no-limit}
+use Rattle.engine.proofs.Facts.{Codec, Off-at, Off, Idle, quiet, lines-of-kept}
 use Rattle.engine.proofs.Course.{go-record, asks, chosen}
 use Rattle.engine.proofs.Devices.{side-first, sides-is, Firm, firm-off}
-use Rattle.engine.proofs.Shares.{directory-weighs, waiting-most}
-use Rattle.engine.proofs.CompactFacts.{Quiet-at, Some-begun-at, All-begun, quiet-firm, fits-phase, quiet-phase}
+use Rattle.engine.proofs.Shares.{directory-weighs}
+use Rattle.engine.proofs.CompactFacts.{Quiet-at, fits-phase, quiet-phase}
 use Rattle.engine.proofs.Compact.{begin-leads-at}
 use Rattle.engine.proofs.WakeFacts.{waking, waking-fits, tapes-fit, replay-store, asleep}
 
@@ -102,11 +100,18 @@ module _ (codec : Codec) (R n : ℕ) (enough : 1024 ≤ R) (at-most : R ≤ 1048
       begin-leads-at codec R _ _ [] k can-stop (held .sound) (length (h .records)) x d no-limit true r fits (omega arith) (found-quiet u s l e)
       (λ x₁ d₁ r₁ c. absurd (let z = c .waits in omega arith))
       (λ x₁ d₁ r₁ c.
-          chosen (λ z. Wakes (after-did d₁ [] r₁ z)) (x₁ .carrying .waking) true _ _ (c .same .waking)
-          (is-over (record { well = refl; silent = refl; holds = record {
-            kept = k; held = held; fits = fits-phase idle (c .fits); phase = refl;
-            rest = quiet (quiet-phase codec idle (c .quiet)) (let a = directory-weighs k in let b = c .used in omega arith);
-          } })))
+      chosen (λ z. Wakes (after-did d₁ [] r₁ z)) (x₁ .carrying .waking) true _ _ (c .same .waking)
+      (is-over (record {
+        well = refl;
+        silent = refl;
+        holds = record {
+          kept = k;
+          held = held;
+          fits = fits-phase idle (c .fits);
+          phase = refl;
+          rest = quiet (quiet-phase codec idle (c .quiet)) (let a = directory-weighs k in let b = c .used in omega arith);
+        };
+      })))
 
   -- after the records of P it is told the record z
   module _ {u : ℕ} {s : State Small} (P : List (Rec News)) (r : ℕ) (long : length P ≡ u) (below : u ≤ R) (gives : s ≡ replay updated no-state t P) (f : Replay-fits (length (s .dir)) (length (s .pending)) (s .small)) where
@@ -133,8 +138,8 @@ module _ (codec : Codec) (R n : ℕ) (enough : 1024 ≤ R) (at-most : R ≤ 1048
       let below : u ≤ R = let q = h .long-fits in omega arith in
       told P r long below gives f z (ap (λ T. getD T u broken) (sym parts) ∙ getD-at P z Q broken u long)
       (go (intact z) refl below (λ q.
-          replay-goes (P ++ z ∷ []) (suc r) (append-assoc P (z ∷ []) Q ∙ parts) (length-append P (z ∷ []) ∙ (let e : length P + 1 ≡ suc u = omega arith in e))
-          (intact-append P (z ∷ []) whole (rw q refl)) (ap (λ y. after updated t u y z) gives ∙ ap (λ i. after updated t i (replay updated no-state t P) z) (sym long) ∙ sym (replay-next updated no-state t P z whole q)) rest))
+      replay-goes (P ++ z ∷ []) (suc r) (append-assoc P (z ∷ []) Q ∙ parts) (length-append P (z ∷ []) ∙ (let e : length P + 1 ≡ suc u = omega arith in e))
+      (intact-append P (z ∷ []) whole (rw q refl)) (ap (λ y. after updated t u y z) gives ∙ ap (λ i. after updated t i (replay updated no-state t P) z) (sym long) ∙ sym (replay-next updated no-state t P z whole q)) rest))
     where
       go : (b : Bool) → intact z ≡ b → u ≤ R → (intact z ≡ true → Wakes (going (replayed (suc u) (after updated t u s z)) d (page (read-record d t (suc u))) [] (suc r))) → Wakes (after-did d [] r (replay-record z (replayed u s)))
       go true e below on = chosen (λ y. Wakes (after-did d [] r y)) (intact z) true _ _ e (asks d t (suc u) (side-first (h .log .layout .sides)) (on e))
