@@ -23,11 +23,11 @@ use Rattle.commands.proofs.Typed.{unknown-turn, no-turn}
 use Rattle.engine.proofs.Course.{Course}
 
 -- what is allowed, for whatever number of records that may be used
-record Answers (R : ℕ) (w : Plain) (k : Kept) (t : List ℕ) (u : Kept-turn) : Type 0 where
-  next : Plain
-  held : Held next (u .next)
-  light : kept-weight (u .next) ≤ 32 * R
-  may : (r : ℕ) → may-spend-on k (reads t) r ≡ true → May core R w t (u .shows) r (u .reply) next
+pub record Answers (R : ℕ) (w : Plain) (k : Kept) (t : List ℕ) (u : Kept-turn) : Type 0 where
+  pub next : Plain
+  pub held : Held next (u .next)
+  pub light : kept-weight (u .next) ≤ 32 * R
+  pub may : (r : ℕ) → may-spend-on k (reads t) r ≡ true → May core R w t (u .shows) r (u .reply) next
 
 module _ (R : ℕ) (w : Plain) (k : Kept) (t : List ℕ) (h : Held w k) (l : kept-weight k ≤ 32 * R) where
   known-fits : (c : Command) → reads t ≡ c ∷ [] → core c ≡ true → no-room R k (kept-turn k c .next) ≡ false → Answers R w k t (kept-turn k c)
@@ -84,7 +84,7 @@ within : (b : Bool) (r a z : ℕ) → r ≤ pick b a z → pick b (leb r a) true
 within true r a z h = le-leb r a h
 within false r a z h = refl
 
-may-within : (k : Kept) (cs : List Command) (r : ℕ) → r ≤ grant-on k cs → may-spend-on k cs r ≡ true
+pub may-within : (k : Kept) (cs : List Command) (r : ℕ) → r ≤ grant-on k cs → may-spend-on k cs r ≡ true
 may-within k [] r h = refl
 may-within k (plain c ∷ cs) r h = within (not (goes-through (c .deed))) r (grant k c (kept-turn k (plain c) .shows)) unlimited h
 may-within k (all-lines a like p c ∷ cs) r h = refl
@@ -94,7 +94,7 @@ module _ (R : ℕ) (w : Plain) (k : Kept) (t : List ℕ) (h : Held w k) (l : kep
   abbrev pub turn-then : Kept-turn
   turn-then = typed-turn R k (reads t)
 
-  answers : Answers R w k t turn-then
+  pub answers : Answers R w k t turn-then
   answers = all R w k t h l (reads t) refl (reads-one t)
 
   abbrev pub course : Course R w t

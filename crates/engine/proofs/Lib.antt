@@ -19,3 +19,7 @@ pub mod Splices
 pub mod PutCommit
 pub mod PutBoth
 pub mod PutLeads
+pub mod WakeFacts
+pub mod WakeReplay
+pub mod WakeFresh
+pub mod Wake
