@@ -23,3 +23,4 @@ pub mod WakeFacts
 pub mod WakeReplay
 pub mod WakeFresh
 pub mod Wake
+pub mod Prepare
