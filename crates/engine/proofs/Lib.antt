@@ -24,3 +24,4 @@ pub mod WakeReplay
 pub mod WakeFresh
 pub mod Wake
 pub mod Prepare
+pub mod Plans

@@ -34,7 +34,7 @@ lines-weigh (l ∷ ls) = let a = lines-weigh ls in let b = records-weigh (length
 pub lines-records-append : (ls ms : List (List ℕ)) → lines-records (ls ++ ms) ≡ lines-records ls + lines-records ms
 lines-records-append ls ms = added-append (λ l. records-of (length l)) ls ms
 
-files-weigh : (fs : List File) → 64 * lines-records (file-lines fs) ≤ added-up file-size fs
+pub files-weigh : (fs : List File) → 64 * lines-records (file-lines fs) ≤ added-up file-size fs
 files-weigh [] = omega arith
 files-weigh (f ∷ fs) = let a = files-weigh fs in let b = lines-weigh (f .lines) in let e = lines-records-append (f .lines) (file-lines fs) in omega arith
 
