@@ -1,2 +1,11 @@
 pub mod Facts
 pub mod Course
+pub mod Devices
+pub mod Pieces
+pub mod Shares
+pub mod CompactFacts
+pub mod CompactPiece
+pub mod CompactCarry
+pub mod Setup
+pub mod CompactBegin
+pub mod Compact
