@@ -15,7 +15,7 @@ use Rattle.plain.specs.Promise.{all-longer}
 use Rattle.plain.specs.Run.{page, next, read, fasten, begin}
 use Rattle.journal.specs.Log.{Position, position, hole, Rec, piece-in, Packed, pieces-of, no-piece, next-generation, Sides, In-cycle, cycle-1, cycle-2, cycle-3}
 use Rattle.journal.specs.Small.{News, updated, no-state}
-use Rattle.journal.specs.Pages.{record-of}
+use Rattle.records.specs.Pages.{record-of}
 use Rattle.journal.specs.Machine.{Did, did}
 use Rattle.journal.proofs.Machine.{Where, going, Goes, after-did}
 use Rattle.journal.proofs.Contents.{layout-new-is}

@@ -13,7 +13,7 @@ use Rattle.plain.specs.Promise.{all-longer}
 use Rattle.plain.specs.Run.{page, next, read, put-on}
 use Rattle.journal.specs.Log.{Position, position, Rec, copy, Piece, piece-in, copies, head-of}
 use Rattle.journal.specs.Small.{News}
-use Rattle.journal.specs.Pages.{page-of, record-of}
+use Rattle.records.specs.Pages.{page-of, record-of}
 use Rattle.journal.specs.Machine.{Did, did}
 use Rattle.journal.proofs.Machine.{Where, going, Goes, after-did}
 use Rattle.commands.specs.Kept.{Kept, fit-line}

@@ -15,7 +15,7 @@ use Rattle.plain.specs.House.{File}
 use Rattle.plain.proofs.Basics.{every-append}
 use Rattle.journal.specs.Log.{Rec, copy, Piece, piece, no-piece, Packed, pieces-of, copies, copy-records}
 use Rattle.journal.specs.Small.{News}
-use Rattle.journal.specs.Pages.{page-of, record-of}
+use Rattle.records.specs.Pages.{page-of, record-of}
 use Rattle.commands.specs.Kept.{Kept, directory, fit-line, fit-lines, fit-file, fit-name, file-lines, Sound}
 use Rattle.engine.specs.Fits.{Word, Piece-fits, Record-fits}
 use Rattle.engine.specs.Packing.{records-of, piece-of, pieces-from, packed, packs}
