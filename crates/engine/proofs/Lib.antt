@@ -1,5 +1,13 @@
 pub mod Facts
 pub mod Course
+pub mod PassDevices
+pub mod Finish
+pub mod PutRecords
+pub mod PutPass
+pub mod PutBrings
+pub mod Splices
+pub mod PutCommit
+pub mod PutBoth
 pub mod Devices
 pub mod Pieces
 pub mod Shares
