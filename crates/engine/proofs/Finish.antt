@@ -16,7 +16,7 @@ use Rattle.plain.specs.Device.{Device, stopped}
 use Rattle.plain.specs.Promise.{May}
 use Rattle.journal.specs.Log.{Position, Rec}
 use Rattle.journal.specs.Small.{Entry, News, updated, no-state}
-use Rattle.journal.specs.Pages.{record-of}
+use Rattle.records.specs.Pages.{record-of}
 use Rattle.journal.proofs.Contents.{Layout}
 use Rattle.journal.proofs.Lifecycle as lifecycle
 use Rattle.journal.proofs.Machine.{after-did, is-over}

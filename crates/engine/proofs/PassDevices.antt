@@ -13,7 +13,7 @@ use Rattle.plain.specs.Run.{has-room}
 use Rattle.plain.specs.Promise.{all-longer}
 use Rattle.journal.specs.Log.{Rec, Sides, ahead, back, tapes}
 use Rattle.journal.specs.Small.{News, updated, no-state}
-use Rattle.journal.specs.Pages.{record-of}
+use Rattle.records.specs.Pages.{record-of}
 use Rattle.journal.proofs.Recovery as recovery
 use Rattle.journal.proofs.Contents.{Layout, layout-old-is, layout-new-is}
 use Rattle.commands.specs.Kept.{Kept}

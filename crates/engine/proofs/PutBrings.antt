@@ -13,7 +13,7 @@ use Rattle.plain.specs.Promise.{all-longer}
 use Rattle.plain.proofs.Basics.{In}
 use Rattle.journal.specs.Log.{Position, Splice, Rec, apply, Packed, positions, command-records, head-of, next-generation, Sides, tapes}
 use Rattle.journal.specs.Small.{Small, News, updated, no-state}
-use Rattle.journal.specs.Pages.{page-of, record-of}
+use Rattle.records.specs.Pages.{page-of, record-of}
 use Rattle.journal.proofs.Alike.{apply-natural}
 use Rattle.journal.proofs.Contents.{Layout}
 use Rattle.journal.proofs.Compaction.{Allowed}

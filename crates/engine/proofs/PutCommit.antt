@@ -14,7 +14,7 @@ use Rattle.plain.specs.Promise.{all-longer}
 use Rattle.journal.specs.Log.{Position, Splice, Rec, State, state, apply, Packed, positions, Sides}
 use Rattle.journal.specs.Small.{Small, News, updated}
 use Rattle.journal.specs.Machine.{Did, did}
-use Rattle.journal.specs.Pages.{page-of}
+use Rattle.records.specs.Pages.{page-of}
 use Rattle.journal.proofs.Alike.{alike-length, length-apply}
 use Rattle.journal.proofs.Machine.{going, after-did}
 use Rattle.commands.specs.Kept.{Kept, kept-weight, directory}

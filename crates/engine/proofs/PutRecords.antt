@@ -13,7 +13,7 @@ use Rattle.plain.specs.Device.{Page}
 use Rattle.plain.proofs.Basics.{In, in-left, in-right, in-cases}
 use Rattle.journal.specs.Log.{Position, position, Splice, Rec, head, line, copy, commit, broken, Source, no-entries, new-entries, copied, incoming, apply, Piece, Packed, pieces-of, parts, line-records, block, positions, command-records, head-of}
 use Rattle.journal.specs.Small.{News}
-use Rattle.journal.specs.Pages.{page-of, record-of}
+use Rattle.records.specs.Pages.{page-of, record-of}
 use Rattle.journal.proofs.Replay.{length-parts}
 use Rattle.journal.proofs.Through.{length-positions}
 use Rattle.commands.specs.Kept.{fit-line, fit-lines}
