@@ -17,3 +17,4 @@ pub mod CompactCarry
 pub mod Setup
 pub mod CompactBegin
 pub mod Compact
+pub mod Fetching
