@@ -18,3 +18,4 @@ pub mod Setup
 pub mod CompactBegin
 pub mod Compact
 pub mod Fetching
+pub mod Walking
