@@ -19,3 +19,4 @@ pub mod CompactBegin
 pub mod Compact
 pub mod Fetching
 pub mod Walking
+pub mod Joining
