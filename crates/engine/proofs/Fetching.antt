@@ -2,37 +2,38 @@
 use mathlib.Core.Path.{_≡_, refl, sym, ap, subst, _∙_}
 use mathlib.Core.Bool.{Bool, true, false, _&&_}
 use mathlib.Core.List.{List, [], _∷_, _++_}
-use mathlib.Core.Logic.{_⊎_, inl, inr}
+use mathlib.Core.Logic.{inl}
 use Prim.Native.Nat.{ℕ, zero, suc, _+_, _*_, _-_, _≤_, _<_}
 use native.Mathlib.Omega.{arith}
 use lib.Dec.{ltb, leb}
 use lib.ListN.{length, getD, take, drop, length-append, length-take, length-drop, take-append-drop}
 use lib.Seq.{drop-cons, getD-append-add, take-add, take-all}
 use Rattle.std.proofs.shelf.Lists.{append-assoc}
-use Rattle.std.proofs.shelf.Tests.{and-parts, and-from, and-right, lt-ltb, le-ltb, ltb-true, ltb-false}
-use Rattle.plain.specs.Pattern.{pick, every, all-bytes, added-up}
+use Rattle.std.proofs.shelf.Tests.{and-parts, and-from, and-right, lt-ltb, le-ltb, ltb-false}
+use Rattle.plain.specs.Pattern.{pick, all-bytes}
+use Rattle.plain.specs.Command.{Simple}
 use Rattle.plain.specs.House.{Plain}
-use Rattle.plain.specs.Device.{Device, Page, read-record, stopped}
+use Rattle.plain.specs.Device.{Device, Page, read-record}
 use Rattle.plain.proofs.Basics.{added-append}
-use Rattle.journal.specs.Log.{Position, position, hole, Rec, Piece, no-piece, Packed, pieces-of, piece-in}
-use Rattle.journal.specs.Small.{Small, updated, no-state}
+use Rattle.journal.specs.Log.{Position, hole, no-piece, pieces-of, piece-in}
+use Rattle.journal.specs.Small.{updated, no-state}
 use Rattle.records.specs.Pages.{record-of}
 use Rattle.journal.proofs.Lifecycle as lifecycle
 use Rattle.journal.proofs.Machine.{after-did}
-use Rattle.commands.specs.Kept.{Kept, kept-weight, lines-size, directory, file-lines, offset, fit-line, fit-lines}
+use Rattle.commands.specs.Kept.{Kept, kept-weight, lines-size, directory, file-lines, offset, fit-line}
 use Rattle.commands.specs.Plan.{Walk, Plan}
 use Rattle.commands.specs.Plan as plan
 use Rattle.commands.specs.Smalls.{smalls-of}
 use Rattle.commands.specs.Turn.{walked}
 use Rattle.commands.specs.Held.{Held}
-use Rattle.commands.proofs.Lists.{added-each, every-take, every-drop, every-both}
+use Rattle.commands.proofs.Lists.{added-each, every-take, every-both}
 use Rattle.commands.proofs.Brought.{offset-is}
 use Rattle.commands.proofs.Planned.{directory-long}
 use Rattle.engine.specs.State.{House, house, Phase, fetching, Walking, walking-of}
 use Rattle.engine.specs.Fits.{Fits, Word, Walking-fits, Positions-fit, none, more, Replay-fits}
 use Rattle.engine.specs.Packing.{records-of, piece-of, packed, packs}
-use Rattle.engine.specs.Machine.{Does, text-at, entry-of, fetch, fetched, next-part, walks, walk-on, weigh, lines-then}
-use Rattle.engine.proofs.Facts.{Codec, Off-at, Safe, Powered, Rest, quiet, busy}
+use Rattle.engine.specs.Machine.{Does, text-at, entry-of, fetch, fetched, next-part, walks, walk-on, weigh, lines-then, start-job}
+use Rattle.engine.proofs.Facts.{Codec, Safe, Rest, quiet, busy}
 use Rattle.engine.proofs.Course.{Course, Leads, On-course, stops, asks, go-record, chosen}
 use Rattle.engine.proofs.Pieces.{line-of, packed-long, packed-at, packs-at, line-fits, records-few}
 use Rattle.engine.proofs.CompactFacts.{quiet-at, busy-at, quiet-long, busy-long}
@@ -51,6 +52,10 @@ fits-walk ph f g = record { tapes = f .tapes; store = f .store; job = f .job; wa
 pub rest-walk : {codec : Codec} {R : ℕ} {d : Device} {x : House} {k : Kept} (ph : Phase) (v : Walking) → Rest codec R d x k → Rest codec R d (walk-with ph v x) k
 rest-walk {codec} {x = x} ph v h = rest-as codec ph (x .job) v (x .putting) (x .carrying) h
 
+-- a job that walks begins before its first line
+pub job-walks : (c : Simple) (size : ℕ) (p : Plan) (x : House) → walks (p .walk) ≡ true → start-job c size p x ≡ walk-at (x .phase) (p .after) 0 0 [] (start-job c size p x)
+job-walks c size p x e = ap (λ b. walk-at (x .phase) (p .after) 0 (pick b 0 (pick (ltb (p .after) (p .upto)) (x .store .small .weight) 0)) [] (start-job c size p x)) e
+
 -- a stop leaves what was kept before
 pub safe-rest : {codec : Codec} {R : ℕ} {d : Device} {x : House} {k : Kept} (k₁ : Kept) → Rest codec R d x k → Safe R d k k₁
 safe-rest {codec} k₁ h = record { leaves = λ cs. inl (rest-off codec h cs) }
@@ -67,6 +72,9 @@ pub record Ahead (text ls : List (List ℕ)) (i upto : ℕ) : Type 0 where
 
 pub ahead-all : (text : List (List ℕ)) (a b : ℕ) → a ≤ b → b ≤ length text → Ahead text (take (b - a) (drop a text)) a b
 ahead-all text a b p q = record { behind = drop (b - a) (drop a text); split = sym (take-append-drop (b - a) (drop a text)); count = simp (length-take, length-drop) (omega arith) }
+
+pub walked-long : (k : Kept) (p : Plan) → p .after ≤ p .upto → p .upto ≤ length (k .text) → length (walked k p) ≡ p .upto - p .after
+walked-long k p a b = simp (length-take, length-drop) (omega arith)
 
 pub ahead-first : {text : List (List ℕ)} {l : List ℕ} {ls : List (List ℕ)} {i upto : ℕ} → Ahead text (l ∷ ls) i upto → Line-at text i l × Ahead text ls (suc i) upto
 ahead-first {text} {l} {ls} {i} h =

@@ -1,19 +1,19 @@
 -- The walk over lines that are joined: their bytes behind one another, or refused where these are too many for a line. Assumes nothing.
 use mathlib.Core.Path.{_≡_, refl, sym, ap, subst, _∙_}
-use mathlib.Core.Bool.{Bool, true, false, _&&_}
+use mathlib.Core.Bool.{true, false}
 use mathlib.Core.List.{List, [], _∷_, _++_, append-assoc, append-nil}
 use mathlib.Core.Logic.{_⊎_, inl, inr}
 use Prim.Native.Nat.{ℕ, zero, suc, _+_, _*_, _-_, _≤_, _<_}
 use native.Mathlib.Omega.{arith}
-use lib.Dec.{eqb, ltb}
-use lib.ListN.{length, take, drop, length-append}
+use lib.Dec.{ltb}
+use lib.ListN.{length, take, length-append}
 use Rattle.std.proofs.shelf.Tests.{lt-ltb, le-ltb, ne-eqb, and-left, cases-lt}
-use Rattle.plain.specs.Pattern.{pick, all-bytes}
+use Rattle.plain.specs.Pattern.{all-bytes}
 use Rattle.plain.specs.House.{Plain}
 use Rattle.plain.specs.Device.{Device}
 use Rattle.journal.proofs.Machine.{after-did}
 use Rattle.commands.specs.Kept.{Kept, lines-size}
-use Rattle.commands.specs.Plan.{Walk, glue, Plan}
+use Rattle.commands.specs.Plan.{glue}
 use Rattle.commands.specs.Turn.{walked, glued-lines}
 use Rattle.commands.specs.Held.{Held}
 use Rattle.commands.proofs.Lists.{every-both}
@@ -23,7 +23,7 @@ use Rattle.engine.specs.Packing.{records-of, piece-of}
 use Rattle.engine.specs.Machine.{Does, refuses, fetch, fetched, next-part, too-long, walk-on, weigh, lines-then}
 use Rattle.engine.proofs.Facts.{Codec, Rest}
 use Rattle.engine.proofs.Course.{Course, Leads, On-course, chosen}
-use Rattle.engine.proofs.Pieces.{records-few, long-fits}
+use Rattle.engine.proofs.Pieces.{records-few}
 use Rattle.engine.proofs.Finish.{rest-as}
 use Rattle.engine.proofs.Fetching.{walk-with, walk-at, fits-walk, rest-walk, Line-at, Ahead, ahead-all, ahead-first, line-joined, bytes-fit, walking-fits, walked-word, line-fits-at, fetch-leads, walk-more, walk-done, line-leads}
 

@@ -1,13 +1,12 @@
 -- The walk over lines of the text: shown, measured or joined, each line leads to the next one, and the last to what is done after it. Assumes nothing.
 use mathlib.Core.Path.{_≡_, refl, sym, ap, subst, _∙_}
 use mathlib.Core.Bool.{Bool, true, false, _&&_}
-use mathlib.Core.List.{List, [], _∷_, _++_, append-assoc, append-nil}
-use mathlib.Core.Logic.{_⊎_, inl, inr}
-use Prim.Native.Nat.{ℕ, zero, suc, _+_, _*_, _-_, _≤_, _<_}
+use mathlib.Core.List.{List, [], _∷_, _++_, append-assoc}
+use Prim.Native.Nat.{ℕ, suc, _+_, _*_, _-_, _≤_, _<_}
 use native.Mathlib.Omega.{arith}
 use lib.Dec.{ltb}
-use lib.ListN.{length, take, drop}
-use Rattle.std.proofs.shelf.Tests.{lt-ltb, le-ltb}
+use lib.ListN.{length, take}
+use Rattle.std.proofs.shelf.Tests.{lt-ltb, le-ltb, and-left}
 use Rattle.plain.specs.Pattern.{pick, eight}
 use Rattle.plain.specs.House.{Plain}
 use Rattle.plain.specs.Device.{Device}
@@ -15,13 +14,13 @@ use Rattle.journal.specs.Log.{Piece}
 use Rattle.plain.specs.Run.{next}
 use Rattle.journal.proofs.Machine.{going, after-did}
 use Rattle.commands.specs.Kept.{Kept, lines-size}
-use Rattle.commands.specs.Plan.{Walk, show, show-numbered, measure, Plan}
+use Rattle.commands.specs.Plan.{Walk, skip, show, show-numbered, measure}
 use Rattle.commands.specs.Turn.{walked, walk-rows, numbered}
 use Rattle.commands.specs.Held.{Held}
-use Rattle.engine.specs.State.{House, Phase, fetching, row-shown, Walking, walking-of}
-use Rattle.engine.specs.Fits.{Fits, Word, Walking-fits}
+use Rattle.engine.specs.State.{House, Phase, fetching, row-shown, walking-of}
+use Rattle.engine.specs.Fits.{Fits, Word}
 use Rattle.engine.specs.Packing.{records-of, piece-of}
-use Rattle.engine.specs.Machine.{Does, fetch, fetched, next-part, row-of, walks, walk-on, weigh, show-piece}
+use Rattle.engine.specs.Machine.{Does, fetch, fetched, next-part, walks, walk-on, weigh, show-piece, lines-then}
 use Rattle.engine.proofs.Facts.{Codec, Rest}
 use Rattle.engine.proofs.Course.{Course, Leads, On-course, stops, go-next, chosen}
 use Rattle.engine.proofs.Pieces.{records-few, long-fits}
@@ -51,7 +50,7 @@ shown-piece : (b : Bool) (p : Piece) (y : House) → fetched (shown-walk b) p y 
 shown-piece true p y = refl
 shown-piece false p y = refl
 
-shown-then : (b : Bool) (y : House) → Rattle.engine.specs.Machine.lines-then (shown-walk b) y ≡ y
+shown-then : (b : Bool) (y : House) → lines-then (shown-walk b) y ≡ y
 shown-then true y = refl
 shown-then false y = refl
 
@@ -70,6 +69,12 @@ module _ (codec : Codec) (R n : ℕ) {w : Plain} {t : List ℕ} (C : Course R w 
       subst (λ z. Leads codec R n C (after-did d ss r (weigh (walk-at ph z 0 went [] x)))) e₁
       (subst (λ z. Leads codec R n C (after-did d ss r (weigh (walk-at ph (x .job .plan .upto) 0 z [] x)))) q₁
       (then ph ss r (fits-walk ph fits (walking-fits (x .job .plan .upto) 0 total [] (fits .job .plan .upto) (omega arith) u (omega arith) refl)) (rest-walk ph (walking-of (x .job .plan .upto) 0 total []) rest) o))
+
+  -- NOTHING to walk over
+  pub skip-leads : (ss : List (List ℕ)) (r : ℕ) → x .job .plan .walk ≡ skip → Leads codec R n C (after-did d ss r (weigh x)) → Leads codec R n C (after-did d ss r (walk-on x))
+  skip-leads ss r m h =
+      chosen (λ (y : Does). Leads codec R n C (after-did d ss r y)) (walks (x .job .plan .walk) && ltb (x .walking .line) (x .job .plan .upto)) false _ _ (and-left _ _ (ap walks m))
+      (subst (λ z. Leads codec R n C (after-did d ss r (weigh (lines-then z x)))) (sym m) h)
 
   -- MEASURING: the first record of each line
   pub measure-from : (ls : List (List ℕ)) (ph : Phase) (i went total : ℕ) (ss : List (List ℕ)) (r : ℕ) {more : List (List ℕ)} {c : ℕ} → x .job .plan .walk ≡ measure →
