@@ -199,7 +199,7 @@ module _ (codec : Codec) (R n : ℕ) {w : Plain} {t : List ℕ} (C : Course R w 
     pub line-leads : (m j i went : ℕ) (pre : List ℕ) (r r₁ : ℕ) {l : List ℕ} {more : List (List ℕ)} {r₀ c : ℕ} → Line-at (k .text) i l → j + suc m ≡ records-of (length l) → Word i → Word went →
         length pre + length l ≤ 1024 → all-bytes pre ≡ true → On-course codec R n C ss more r₀ c → r + m ≤ r₁ →
         ((j r : ℕ) → suc j < records-of (length l) → Leads codec R n C (after-did d ss r (fetch (next-part (piece-of l j) (walk-at fetching i j went (pre ++ take (503 * j) l) x)))) →
-            Leads codec R n C (after-did d ss r (fetched W (piece-of l j) (walk-at fetching i j went (pre ++ take (503 * j) l) x)))) →
+        Leads codec R n C (after-did d ss r (fetched W (piece-of l j) (walk-at fetching i j went (pre ++ take (503 * j) l) x)))) →
         ((j r : ℕ) → suc j ≡ records-of (length l) → r ≤ r₁ → Leads codec R n C (after-did d ss r (fetched W (piece-of l j) (walk-at fetching i j went (pre ++ take (503 * j) l) x)))) →
         Leads codec R n C (after-did d ss r (fetched W (piece-of l j) (walk-at fetching i j went (pre ++ take (503 * j) l) x)))
     line-leads zero j i went pre r r₁ a e u v s g o q goes-on last = last j r (omega arith) (omega arith)
@@ -207,7 +207,7 @@ module _ (codec : Codec) (R n : ℕ) {w : Plain} {t : List ℕ} (C : Course R w 
         let bs : List ℕ = pre ++ take (503 * suc j) l in
         let few = records-few (length l) in
         let f : Walking-fits (walking-of i (suc j) went bs) = walking-fits i (suc j) went bs u (omega arith) v (simp (length-append, length-take) (omega arith))
-            (every-both (λ b. ltb b 256) pre (take (503 * suc j) l) g (every-take (λ b. ltb b 256) (503 * suc j) l (bytes-fit l (line-fits-at a)))) in
+        (every-both (λ b. ltb b 256) pre (take (503 * suc j) l) g (every-take (λ b. ltb b 256) (503 * suc j) l (bytes-fit l (line-fits-at a)))) in
         goes-on j r (omega arith)
         (subst (λ z. Leads codec R n C (after-did d ss r (fetch (walk-at fetching i (suc j) went z x)))) (sym (parts-joined pre l j))
         (fetch-leads fetching i (suc j) went bs r a (omega arith) f o (line-leads m (suc j) i went pre (suc r) r₁ a (omega arith) u v s g o (omega arith) goes-on last)))
