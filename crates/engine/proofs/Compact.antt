@@ -1,22 +1,20 @@
 -- Compaction: from the decision to carry entries, or to begin the other tape, to where the command goes on. Assumes nothing.
-use mathlib.Core.Path.{_≡_, refl, sym, ap, subst, _∙_}
-use mathlib.Core.Bool.{Bool, true, false}
-use mathlib.Core.List.{List, [], _∷_, _++_, map}
-use Prim.Native.Nat.{ℕ, zero, suc, _+_, _*_, _-_, _≤_, _<_}
+use mathlib.Core.Path.{refl, _∙_}
+use mathlib.Core.Bool.{Bool}
+use mathlib.Core.List.{List}
+use Prim.Native.Nat.{ℕ, _+_, _≤_}
 use native.Mathlib.Omega.{arith}
-use lib.ListN.{length}
 use Rattle.plain.specs.Device.{Device, stopped}
 use Rattle.journal.proofs.Machine.{Goes, after-did}
-use Rattle.journal.proofs.Waiting.{waiting}
-use Rattle.commands.specs.Kept.{Kept, kept-weight, directory, Sound}
-use Rattle.engine.specs.State.{House, passive}
+use Rattle.commands.specs.Kept.{Kept, directory, Sound}
+use Rattle.engine.specs.State.{House}
 use Rattle.engine.specs.Fits.{Fits, Word}
-use Rattle.engine.specs.Packing.{records-on, lines-records}
+use Rattle.engine.specs.Packing.{records-on}
 use Rattle.engine.specs.Machine.{machine, go-on, carry, begin-other}
 use Rattle.engine.proofs.Facts.{Codec, Off-at, Quiet, Busy}
 use Rattle.engine.proofs.Devices.{sides-apart}
 use Rattle.engine.proofs.Shares.{directory-weighs, records-on-most, on-lies, all-wait}
-use Rattle.engine.proofs.CompactFacts.{Quiet-at, Busy-at, quiet-at, busy-at, Some-carried-at, All-carried, Some-begun-at, All-begun, Some-carried, Some-begun, some-carried, some-begun}
+use Rattle.engine.proofs.CompactFacts.{Quiet-at, quiet-at, busy-at, All-carried, Some-begun-at, All-begun, Some-carried, Some-begun, some-carried, some-begun}
 use Rattle.engine.proofs.CompactCarry.{carry-goes}
 use Rattle.engine.proofs.CompactBegin.{setting, begin-goes}
 
@@ -48,27 +46,27 @@ module _
         let enough = b .powered .enough in
         begin-goes codec R m live Stop End ss k can-stop (b .powered .at-most) x d q w r f word b
         (λ j o r₁ d₁ few n fits busy.
-            carry-goes codec R m live Stop End ss k can-stop sound q (setting x q w j o) d₁ r₁ refl fits busy (omega arith)
-            (λ x₂ d₂ r₂ h. some x₂ d₂ r₂ (record {
-              busy = h .busy;
-              fits = h .fits;
-              same = record { room = h .same .room; small = h .same .small; pending = h .same .pending; job = h .same .job; walking = h .same .walking; putting = h .same .putting; waking = h .same .waking };
-              active = h .active;
-              generation = h .generation;
-              used = h .used;
-              waits = h .waits ∙ e .0;
-              shares = let a = h .shares in omega arith;
-              count = let a = h .count in omega arith;
-            }))
-            (λ x₂ d₂ r₂ h. all x₂ d₂ r₂ (record {
-              quiet = h .quiet;
-              fits = h .fits;
-              same = record { room = h .same .room; small = h .same .small; pending = h .same .pending; job = h .same .job; walking = h .same .walking; putting = h .same .putting; waking = h .same .waking };
-              active = h .active;
-              generation = h .generation;
-              used = let a = h .used in omega arith;
-              count = let a = h .count in omega arith;
-            })))
+        carry-goes codec R m live Stop End ss k can-stop sound q (setting x q w j o) d₁ r₁ refl fits busy (omega arith)
+        (λ x₂ d₂ r₂ h. some x₂ d₂ r₂ (record {
+          busy = h .busy;
+          fits = h .fits;
+          same = record { room = h .same .room; small = h .same .small; pending = h .same .pending; job = h .same .job; walking = h .same .walking; putting = h .same .putting; waking = h .same .waking };
+          active = h .active;
+          generation = h .generation;
+          used = h .used;
+          waits = h .waits ∙ e .0;
+          shares = let a = h .shares in omega arith;
+          count = let a = h .count in omega arith;
+        }))
+        (λ x₂ d₂ r₂ h. all x₂ d₂ r₂ (record {
+          quiet = h .quiet;
+          fits = h .fits;
+          same = record { room = h .same .room; small = h .same .small; pending = h .same .pending; job = h .same .job; walking = h .same .walking; putting = h .same .putting; waking = h .same .waking };
+          active = h .active;
+          generation = h .generation;
+          used = let a = h .used in omega arith;
+          count = let a = h .count in omega arith;
+        })))
 
     pub begin-leads : {live : Bool} (x : House) (d : Device) (q : ℕ) (w : Bool) (r : ℕ) → Fits x → Word q → Quiet codec R live d x k →
         ((x₁ : House) (d₁ : Device) (r₁ : ℕ) → Some-begun codec R live k q w r x x₁ d₁ r₁ → Goes machine Stop End (after-did d₁ ss r₁ (go-on x₁))) →

@@ -1,9 +1,9 @@
 -- Beginning the other tape: a head, and the small state; then entries are carried. Assumes nothing.
 use mathlib.Core.Path.{_≡_, refl, sym, ap, subst, _∙_}
 use mathlib.Core.Bool.{Bool, true, false}
-use mathlib.Core.List.{List, [], _∷_, _++_, map}
-use mathlib.Core.Logic.{_⊎_, inl, inr}
-use Prim.Native.Nat.{ℕ, zero, suc, _+_, _*_, _-_, _≤_, _<_}
+use mathlib.Core.List.{List, _∷_, map}
+use mathlib.Core.Logic.{inl, inr}
+use Prim.Native.Nat.{ℕ, suc, _+_, _-_, _≤_, _<_}
 use native.Mathlib.Omega.{arith}
 use lib.Dec.{ltb}
 use lib.ListN.{length, getD, drop, length-drop, length-map}
@@ -12,41 +12,31 @@ use Rattle.std.proofs.shelf.Tests.{lt-ltb, le-ltb}
 use Rattle.plain.specs.Device.{Device, Page, tape-of, stopped, longer, anew}
 use Rattle.plain.specs.Promise.{all-longer}
 use Rattle.plain.specs.Run.{next}
-use Rattle.journal.specs.Log.{Position, Rec, head, commit, set-up, no-splice, head-of, begin-records, next-generation, Sides, In-cycle, cycle-1, cycle-2, cycle-3}
-use Rattle.journal.specs.Small.{Small, News, updated, no-state, set-up-of}
-use Rattle.records.specs.Pages.{page-of, record-of}
-use Rattle.journal.proofs.Machine.{Where, going, Goes, after-did}
+use Rattle.journal.specs.Log.{Rec, head, commit, set-up, no-splice, head-of, begin-records, next-generation}
+use Rattle.journal.specs.Small.{News, updated, no-state, set-up-of}
+use Rattle.journal.specs.Pages.{page-of, record-of}
+use Rattle.journal.proofs.Machine.{going, Goes, after-did}
 use Rattle.journal.proofs.Contents.{layout-new-is}
 use Rattle.journal.proofs.Lifecycle as lifecycle
 use Rattle.journal.proofs.Generations.{cycle-next}
 use Rattle.journal.proofs.Small.{set-up-right}
-use Rattle.commands.specs.Kept.{Kept, kept-weight, directory}
+use Rattle.commands.specs.Kept.{Kept}
 use Rattle.commands.specs.Smalls.{smalls-of}
-use Rattle.engine.specs.State.{House, Phase, compact-begun, setting-up, at-phase, tapes-of, with-tapes, with-carrying, carrying-of, passive}
+use Rattle.engine.specs.State.{House, compact-begun, setting-up, at-phase, tapes-of, with-tapes, with-carrying, carrying-of, passive}
 use Rattle.engine.specs.Fits.{Fits, Word, Record-fits, Replay-fits}
 use Rattle.engine.specs.Machine.{machine, carry, begin-other, put-other, no-news}
-use Rattle.engine.proofs.Facts.{Codec, Off-at, Powered, lines-of-kept}
+use Rattle.engine.proofs.Facts.{Codec, Off-at, lines-of-kept}
 use Rattle.engine.proofs.Course.{go-next, puts, begins, chosen}
-use Rattle.engine.proofs.Devices.{Firm, firm-off, firm-sides, firm-begin, firm-put, side-second, longer-long, anew-here, anew-room, all-room, room-for}
+use Rattle.engine.proofs.Devices.{cycle-bounds, Firm, firm-off, firm-sides, firm-begin, firm-put, side-second, longer-long, anew-here, anew-room, all-room, room-for}
 use Rattle.engine.proofs.Setup.{All-news, no-news-left, and-news, set-up-fits, set-up-few, no-state-fits, settled-fits, set-up-pages, length-set-up-pages, set-up-record, set-up-read}
-use Rattle.engine.proofs.CompactFacts.{Quiet-at, Busy-at, quiet-firm}
+use Rattle.engine.proofs.CompactFacts.{Quiet-at, Busy-at, quiet-firm, fits-phase}
 
--- the other tape was begun, and has o records, j of them of the small state; or none yet
-abbrev pub begun : House → ℕ → Bool → House
-begun x q w = at-phase compact-begun (with-carrying (carrying-of 0 0 0 0 q w) (with-tapes (tapes-of (x .tapes .room) (x .tapes .active) (x .tapes .generation) (x .tapes .used) true 0 0) x))
-
+-- the other tape was begun, and has o records, the next one being record j of the small state; or it has none yet
 abbrev pub setting : House → ℕ → Bool → ℕ → ℕ → House
 setting x q w j o = at-phase setting-up (with-carrying (carrying-of j 0 0 0 q w) (with-tapes (tapes-of (x .tapes .room) (x .tapes .active) (x .tapes .generation) (x .tapes .used) true o 0) x))
 
-fits-begun : {x : House} {q : ℕ} {w : Bool} → Fits x → Word q → Fits (begun x q w)
-fits-begun f h = record {
-  tapes = record { room = f .tapes .room; active = f .tapes .active; generation = f .tapes .generation; used = f .tapes .used; other = omega arith; cursor = omega arith };
-  store = f .store;
-  job = f .job;
-  walking = f .walking;
-  putting = f .putting;
-  carrying = record { index = omega arith; part = omega arith; long = omega arith; start = omega arith; quota = h };
-}
+abbrev pub begun : House → ℕ → Bool → House
+begun x q w = at-phase compact-begun (setting x q w 0 0)
 
 fits-setting : {x : House} {q : ℕ} {w : Bool} {j o : ℕ} → Fits x → Word q → Word j → o ≤ 1048576 → Fits (setting x q w j o)
 fits-setting f h a b = record {
@@ -58,10 +48,8 @@ fits-setting f h a b = record {
   carrying = record { index = a; part = omega arith; long = omega arith; start = omega arith; quota = h };
 }
 
-cycle-bounds : {g : ℕ} → In-cycle g → (1 ≤ g) × (g ≤ 3)
-cycle-bounds cycle-1 = omega arith
-cycle-bounds cycle-2 = omega arith
-cycle-bounds cycle-3 = omega arith
+fits-begun : {x : House} {q : ℕ} {w : Bool} → Fits x → Word q → Fits (begun x q w)
+fits-begun f h = fits-phase compact-begun (fits-setting f h (omega arith) (omega arith))
 
 -- WHAT HOLDS THEN
 module _ {codec : Codec} {R m : ℕ} {live : Bool} {d : Device} {x : House} {k : Kept} (b : Quiet-at codec R m live d x k) (f : Fits x) where

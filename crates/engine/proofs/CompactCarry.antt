@@ -1,45 +1,39 @@
 -- Carrying entries to the other tape, as many as may be: it ends with some left, or the tapes change. Assumes nothing.
 use mathlib.Core.Path.{_≡_, refl, sym, ap, subst, _∙_}
 use mathlib.Core.Bool.{Bool, true, false}
-use mathlib.Core.List.{List, [], _∷_, _++_, map}
-use mathlib.Core.Logic.{_⊎_, inl, inr}
-use Prim.Native.Nat.{ℕ, zero, suc, _+_, _*_, _-_, _≤_, _<_}
+use mathlib.Core.List.{List}
+use Prim.Native.Nat.{ℕ, zero, suc, _+_, _-_, _≤_, _<_}
 use native.Mathlib.Nat.{add-zero}
 use native.Mathlib.Omega.{arith}
 use lib.Dec.{eqb, ltb}
-use lib.ListN.{length, getD, drop, set, length-set, length-map}
-use Rattle.std.proofs.shelf.Tests.{lt-ltb, le-ltb, eq-eqb, ne-eqb, ltb-true, ltb-false}
+use lib.ListN.{length, getD, set, length-set, length-map}
+use Rattle.std.proofs.shelf.Tests.{eq-eqb, ne-eqb, ltb-true, ltb-false}
 use Rattle.plain.specs.Pattern.{pick}
-use Rattle.plain.specs.Device.{Device, Page, tape-of, stopped, longer, fastened, anew, read-record}
+use Rattle.plain.specs.Device.{Device, Page, tape-of, stopped, fastened, anew, read-record}
 use Rattle.plain.specs.Promise.{all-longer}
-use Rattle.plain.specs.Run.{page, next, read, fasten, begin}
-use Rattle.journal.specs.Log.{Position, position, hole, Rec, piece-in, Packed, pieces-of, no-piece, next-generation, Sides, In-cycle, cycle-1, cycle-2, cycle-3}
-use Rattle.journal.specs.Small.{News, updated, no-state}
-use Rattle.records.specs.Pages.{record-of}
-use Rattle.journal.specs.Machine.{Did, did}
-use Rattle.journal.proofs.Machine.{Where, going, Goes, after-did}
+use Rattle.plain.specs.Run.{page, read, fasten}
+use Rattle.journal.specs.Log.{Position, position, hole, next-generation, Sides}
+use Rattle.journal.specs.Small.{updated, no-state}
+use Rattle.journal.specs.Pages.{record-of}
+use Rattle.journal.specs.Machine.{did}
+use Rattle.journal.proofs.Machine.{going, Goes, after-did}
 use Rattle.journal.proofs.Contents.{layout-new-is}
 use Rattle.journal.proofs.Lifecycle as lifecycle
 use Rattle.journal.proofs.Generations.{cycle-next}
-use Rattle.journal.proofs.Waiting.{waiting, waiting-set, Behind, behind-set}
-use Rattle.commands.specs.Kept.{Kept, kept-weight, directory, Sound}
+use Rattle.journal.proofs.Waiting.{waiting-set, Behind, behind-set}
+use Rattle.commands.specs.Kept.{Kept, directory, Sound}
 use Rattle.commands.specs.Smalls.{smalls-of}
-use Rattle.engine.specs.State.{House, Phase, carry-read, compact-fast, switched, at-phase, with-tapes, with-carrying, carrying-of, passive}
-use Rattle.engine.specs.Fits.{Fits, Word, Replay-fits, Positions-fit}
-use Rattle.engine.specs.Packing.{records-of, packed, packs, records-on}
+use Rattle.engine.specs.State.{House, Phase, carry-read, compact-fast, switched, at-phase, with-carrying, carrying-of, passive}
+use Rattle.engine.specs.Fits.{Fits, Word, Replay-fits}
+use Rattle.engine.specs.Packing.{records-of, packed, records-on}
 use Rattle.engine.specs.Machine.{machine, entry-of, go-on, carry, carry-entry, next-entry, switch}
-use Rattle.engine.proofs.Facts.{Codec, Off-at, Powered, Quiet, Busy, lines-of-kept}
+use Rattle.engine.proofs.Facts.{Codec, Off-at, Quiet, lines-of-kept}
 use Rattle.engine.proofs.Course.{go-next, asks, fastens, begins, chosen}
-use Rattle.engine.proofs.Devices.{Firm, firm-off, firm-fasten, firm-sides, side-first, side-second, sides-apart, sides-turn, sides-is, all-room, anew-here, anew-room, fastened-room}
+use Rattle.engine.proofs.Devices.{cycle-bounds, firm-off, firm-fasten, side-first, side-second, sides-apart, sides-turn, sides-is, all-room, anew-here, anew-room, fastened-room}
 use Rattle.engine.proofs.Pieces.{records-few, line-of, packs-at, packed-at, packed-long, line-fits, directory-fits, copies-are, copy-pages, length-copy-pages}
 use Rattle.engine.proofs.Shares.{records-on-gone, records-on-came, records-on-none}
-use Rattle.engine.proofs.CompactFacts.{Busy-at, busy-firm, busy-other, busy-long, Next-entry, next-entry-is, positions-set, fits-phase, Untouched, Some-carried-at, All-carried, quiet-firm, quiet-at, at-busy, busy-at}
+use Rattle.engine.proofs.CompactFacts.{Busy-at, busy-firm, busy-other, busy-long, Next-entry, next-entry-is, positions-set, fits-phase, Some-carried-at, All-carried, quiet-firm, quiet-at}
 use Rattle.engine.proofs.CompactPiece.{reading, moved, Entry, pieces-go}
-
-cycle-low : {g : ℕ} → In-cycle g → g ≤ 3
-cycle-low cycle-1 = omega arith
-cycle-low cycle-2 = omega arith
-cycle-low cycle-3 = omega arith
 
 -- THE CHANGE OF TAPES
 module _ {codec : Codec} {R m : ℕ} {live : Bool} {d : Device} {x : House} {k : Kept} (b : Busy-at codec R m live d x k) where
@@ -76,7 +70,7 @@ module _ {codec : Codec} {R m : ℕ} {live : Bool} {d : Device} {x : House} {k :
     tapes = record {
       room = f .tapes .room;
       active = side-second busy-sides;
-      generation = cycle-low (cycle-next (b .log .cycle));
+      generation = cycle-bounds (cycle-next (b .log .cycle)) .1;
       used = f .tapes .other;
       other = omega arith;
       cursor = omega arith;
@@ -201,9 +195,9 @@ module _
         (subst (λ z. Goes machine Stop End (going (reading x i 0 0 o o) d (page (read-record d t z)) ss (suc r))) (add-zero a)
         (pieces-go codec R Stop End ss k can-stop (b .powered .at-most) n 0 0 o o (suc r) entry (omega arith) (omega arith) start (busy-other codec b) (omega arith)
         (λ o₁ r₁ p q.
-            cont o₁ (all-longer d y (copy-pages i l 0 (suc n))) r₁ (fits-moved b sound i there word o₁ (omega arith) (omega arith) f)
-            (subst (λ z. Busy-at codec R m live (all-longer d y (copy-pages i l 0 z)) (moved x i o o₁) k) (sym e) (moved-busy b sound i there word o₁ (omega arith) (omega arith) (found .behind)))
-            (omega arith) (omega arith))))
+        cont o₁ (all-longer d y (copy-pages i l 0 (suc n))) r₁ (fits-moved b sound i there word o₁ (omega arith) (omega arith) f)
+        (subst (λ z. Busy-at codec R m live (all-longer d y (copy-pages i l 0 z)) (moved x i o o₁) k) (sym e) (moved-busy b sound i there word o₁ (omega arith) (omega arith) (found .behind)))
+        (omega arith) (omega arith))))
 
     -- none is left
     switch-goes : (q : ℕ) (x : House) (d : Device) (r : ℕ) → Fits x → Busy-at codec R m live d x k → Behind (x .tapes .active) (length (x .store .dir)) (x .store .dir) → x .tapes .other ≤ R →
@@ -289,10 +283,10 @@ module _
         chosen (λ z. Goes machine Stop End (after-did d ss r z)) (eqb (x .carrying .quota) 0) false _ _ (ne-eqb (x .carrying .quota) 0 (λ z. omega arith))
         (entry found
         (λ there on o₁ d₁ r₁ f₁ b₁ g c.
-            let share = records-on-gone (x .tapes .active) (x .store .dir) (directory k) i (position (passive x) (x .tapes .other)) there (busy-long codec b) on (sides-apart (b .log .layout .sides)) in
-            carry-goes q (moved x i (x .tapes .other) o₁) d₁ r₁ (omega arith) f₁ b₁ (omega arith)
-            (λ x₂ d₂ r₂ h. some x₂ d₂ r₂ (some-more q b there on g c h))
-            (λ x₂ d₂ r₂ h. all x₂ d₂ r₂ (all-more q b there on g c h))))
+        let share = records-on-gone (x .tapes .active) (x .store .dir) (directory k) i (position (passive x) (x .tapes .other)) there (busy-long codec b) on (sides-apart (b .log .layout .sides)) in
+        carry-goes q (moved x i (x .tapes .other) o₁) d₁ r₁ (omega arith) f₁ b₁ (omega arith)
+        (λ x₂ d₂ r₂ h. some x₂ d₂ r₂ (some-more q b there on g c h))
+        (λ x₂ d₂ r₂ h. all x₂ d₂ r₂ (all-more q b there on g c h))))
       where
         entry : Next-entry (x .tapes .active) (x .tapes .cursor) (next-entry x) (x .store .dir) →
             (next-entry x < length (x .store .dir) → getD (x .store .dir) (next-entry x) hole .tape ≡ x .tapes .active →

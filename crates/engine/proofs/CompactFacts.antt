@@ -2,27 +2,27 @@
 -- carry; what comes of carrying. Assumes nothing.
 use mathlib.Core.Path.{_≡_, refl, sym, ap, subst, _∙_}
 use mathlib.Core.Bool.{Bool, true, false}
-use mathlib.Core.List.{List, [], _∷_, _++_, map}
-use mathlib.Core.Logic.{_⊎_, inl, inr}
+use mathlib.Core.List.{List, [], _∷_}
+use mathlib.Core.Logic.{inl, inr}
 use Prim.Native.Nat.{ℕ, zero, suc, _+_, _*_, _-_, _≤_, _<_}
 use native.Mathlib.Omega.{arith}
 use lib.Dec.{eqb}
-use lib.ListN.{length, getD, take, drop, set, length-drop, length-map}
+use lib.ListN.{length, getD, drop, set, length-drop, length-map}
 use lib.Seq.{getD-drop}
-use Rattle.std.proofs.shelf.Tests.{eq-eqb, ne-eqb, eqb-true, eqb-false, cases-bool}
+use Rattle.std.proofs.shelf.Tests.{eqb-true, eqb-false, cases-lt}
 use Rattle.plain.specs.Pattern.{pick}
-use Rattle.plain.specs.Device.{Device, Page, tape-of, stopped}
-use Rattle.journal.specs.Log.{Position, position, hole, Sides, next-generation, State}
-use Rattle.journal.specs.Small.{Small, updated, no-state}
-use Rattle.records.specs.Pages.{record-of}
+use Rattle.plain.specs.Device.{Device, tape-of, stopped}
+use Rattle.journal.specs.Log.{Position, hole, next-generation}
+use Rattle.journal.specs.Small.{updated, no-state}
+use Rattle.journal.specs.Pages.{record-of}
 use Rattle.journal.proofs.Alike.{alike-length}
 use Rattle.journal.proofs.Contents.{layout-new-is}
 use Rattle.journal.proofs.Lifecycle as lifecycle
 use Rattle.journal.proofs.Waiting.{waiting, Behind}
-use Rattle.commands.specs.Kept.{Kept, kept-weight, directory}
+use Rattle.commands.specs.Kept.{Kept, directory}
 use Rattle.commands.specs.Smalls.{smalls-of}
-use Rattle.engine.specs.State.{House, Phase, Tapes, at-phase, passive}
-use Rattle.engine.specs.Fits.{Fits, Word, Replay-fits, Position-fits, Positions-fit, none, more}
+use Rattle.engine.specs.State.{House, Phase, at-phase, passive}
+use Rattle.engine.specs.Fits.{Fits, Replay-fits, Position-fits, Positions-fit, none, more}
 use Rattle.engine.specs.Packing.{records-on, lines-records}
 use Rattle.engine.specs.Machine.{next-on}
 use Rattle.engine.proofs.Facts.{Codec, Off-at, Powered, Quiet, Busy, Active, Copying, lines-of-kept}
@@ -61,15 +61,24 @@ module _ (codec : Codec) where
 
     pub quiet-firm : {m : ℕ} → Quiet-at R m live d x k → Firm codec R k d (x .tapes .active) (passive x) (x .tapes .generation)
     quiet-firm {m} h = record {
-      live = live; used = m; dir = x .store .dir; log = h .log;
-      room = h .powered .device-room; used-fits = h .long-fits; other-fits = h .powered .other-fits;
+      live = live;
+      used = m;
+      dir = x .store .dir;
+      log = h .log;
+      room = h .powered .device-room;
+      used-fits = h .long-fits;
+      other-fits = h .powered .other-fits;
     }
 
     pub busy-firm : {m : ℕ} → Busy-at R m live d x k → Firm codec R k d (x .tapes .active) (passive x) (x .tapes .generation)
     busy-firm {m} h = record {
-      live = live; used = m; dir = h .log .compacting .old;
+      live = live;
+      used = m;
+      dir = h .log .compacting .old;
       log = lifecycle.copying-active updated no-state Replay-fits record-of (codec .torn) (h .log);
-      room = h .powered .device-room; used-fits = h .long-fits; other-fits = h .powered .other-fits;
+      room = h .powered .device-room;
+      used-fits = h .long-fits;
+      other-fits = h .powered .other-fits;
     }
 
     -- a stop at rest, and while entries are carried
@@ -139,12 +148,9 @@ next-entry-is t c D l h =
       low = low₁;
       high = omega arith;
       hits = λ g. subst (λ z. getD D z hole .tape ≡ t) (let q : c + (n - c) ≡ n = omega arith in q) (sym (ap (λ p. p .tape) (getD-drop c D (n - c) hole)) ∙ r .hits (omega arith));
-      behind = λ i g q. elim (cases i c) [ inl a ↦ h i a q | inr a ↦ r .misses (i - c) (omega (arith, a, g)) (back i a q) ];
+      behind = λ i g q. elim (cases-lt i c) [ inl a ↦ h i a q | inr a ↦ r .misses (i - c) (omega (arith, a, g)) (back i a q) ];
     }
   where
-    cases : (i c : ℕ) → (i < c) ⊎ (c ≤ i)
-    cases i c = Rattle.std.proofs.shelf.Tests.cases-lt i c
-
     back : (i : ℕ) → c ≤ i → getD D i hole .tape ≡ t → getD (drop c D) (i - c) hole .tape ≡ t
     back i a q = ap (λ p. p .tape) (getD-drop c D (i - c) hole) ∙ subst (λ z. getD D z hole .tape ≡ t) (let e : i ≡ c + (i - c) = omega arith in e) q
 
@@ -156,6 +162,26 @@ positions-set (suc i) (more g h) f = more g (positions-set i h f)
 
 pub fits-phase : {x : House} (ph : Phase) → Fits x → Fits (at-phase ph x)
 fits-phase ph f = record { tapes = f .tapes; store = f .store; job = f .job; walking = f .walking; putting = f .putting; carrying = f .carrying }
+
+-- and the facts hold whatever the last act was
+module _ (codec : Codec) {R : ℕ} {d : Device} {x : House} {k : Kept} (ph : Phase) where
+  pub powered-phase : Powered codec R d x k → Powered codec R d (at-phase ph x) k
+  powered-phase h = record {
+    machine-room = h .machine-room;
+    device-room = h .device-room;
+    enough = h .enough;
+    at-most = h .at-most;
+    light = h .light;
+    small = h .small;
+    other-fits = h .other-fits;
+    used-fits = h .used-fits;
+  }
+
+  pub quiet-phase : {live : Bool} → Quiet codec R live d x k → Quiet codec R live d (at-phase ph x) k
+  quiet-phase h = record { powered = powered-phase (h .powered); not-busy = h .not-busy; cursor = h .cursor; log = h .log }
+
+  pub busy-phase : {live : Bool} → Busy codec R live d x k → Busy codec R live d (at-phase ph x) k
+  busy-phase h = record { powered = powered-phase (h .powered); is-busy = h .is-busy; log = h .log; behind = h .behind; cursor = h .cursor }
 
 -- WHAT COMES OF CARRYING
 -- what is the same in both
@@ -237,9 +263,27 @@ pub record Some-begun (codec : Codec) (R : ℕ) (live : Bool) (k : Kept) (q : �
 pub some-carried : {codec : Codec} {R : ℕ} {live : Bool} {k : Kept} {q r : ℕ} {x x₁ : House} {d₁ : Device} {r₁ : ℕ} →
     Some-carried-at codec R (x .tapes .used) live k q r x x₁ d₁ r₁ → Some-carried codec R live k q r x x₁ d₁ r₁
 some-carried {codec} h = record {
-  busy = at-busy codec (sym (h .used)) (h .busy); fits = h .fits; same = h .same; active = h .active; generation = h .generation; used = h .used; waits = h .waits; shares = h .shares; count = h .count }
+  busy = at-busy codec (sym (h .used)) (h .busy);
+  fits = h .fits;
+  same = h .same;
+  active = h .active;
+  generation = h .generation;
+  used = h .used;
+  waits = h .waits;
+  shares = h .shares;
+  count = h .count;
+}
 
 pub some-begun : {codec : Codec} {R : ℕ} {live : Bool} {k : Kept} {q : ℕ} {w : Bool} {r : ℕ} {x x₁ : House} {d₁ : Device} {r₁ : ℕ} →
     Some-begun-at codec R (x .tapes .used) live k q w r x x₁ d₁ r₁ → Some-begun codec R live k q w r x x₁ d₁ r₁
 some-begun {codec} h = record {
-  busy = at-busy codec (sym (h .used)) (h .busy); fits = h .fits; same = h .same; active = h .active; generation = h .generation; used = h .used; waits = h .waits; shares = h .shares; count = h .count }
+  busy = at-busy codec (sym (h .used)) (h .busy);
+  fits = h .fits;
+  same = h .same;
+  active = h .active;
+  generation = h .generation;
+  used = h .used;
+  waits = h .waits;
+  shares = h .shares;
+  count = h .count;
+}

@@ -1,29 +1,28 @@
 -- Carrying one entry: its records are read from the tape that counts and put on the other one, one after the other. Assumes nothing.
 use mathlib.Core.Path.{_≡_, refl, sym, ap, subst, _∙_}
-use mathlib.Core.Bool.{Bool, true, false}
-use mathlib.Core.List.{List, [], _∷_, _++_, map}
-use mathlib.Core.Logic.{_⊎_, inl, inr}
+use mathlib.Core.Bool.{true, false}
+use mathlib.Core.List.{List}
+use mathlib.Core.Logic.{inl}
 use Prim.Native.Nat.{ℕ, zero, suc, _+_, _*_, _-_, _≤_, _<_}
 use native.Mathlib.Omega.{arith}
 use lib.Dec.{ltb}
-use lib.ListN.{length, getD, set}
+use lib.ListN.{length, set}
 use Rattle.std.proofs.shelf.Tests.{lt-ltb, le-ltb}
 use Rattle.plain.specs.Device.{Device, Page, tape-of, stopped, longer, read-record}
 use Rattle.plain.specs.Promise.{all-longer}
-use Rattle.plain.specs.Run.{page, next, read, put-on}
-use Rattle.journal.specs.Log.{Position, position, Rec, copy, Piece, piece-in, copies, head-of}
-use Rattle.journal.specs.Small.{News}
-use Rattle.records.specs.Pages.{page-of, record-of}
-use Rattle.journal.specs.Machine.{Did, did}
-use Rattle.journal.proofs.Machine.{Where, going, Goes, after-did}
+use Rattle.plain.specs.Run.{page}
+use Rattle.journal.specs.Log.{position, copy, Piece, piece-in, copies, head-of}
+use Rattle.journal.specs.Pages.{page-of, record-of}
+use Rattle.journal.proofs.Machine.{going, Goes, after-did}
 use Rattle.commands.specs.Kept.{Kept, fit-line}
-use Rattle.engine.specs.State.{House, Phase, carry-read, carry-put, at-phase, with-tapes, with-other, with-cursor, with-store, with-dir, with-carrying, carrying-of, passive}
+use Rattle.engine.specs.State.{House, carry-read, carry-put, at-phase, with-tapes, with-other, with-cursor, with-store, with-dir, with-carrying, carrying-of, passive}
 use Rattle.engine.specs.Fits.{Fits, Word}
 use Rattle.engine.specs.Packing.{records-of, piece-of, pieces-from}
-use Rattle.engine.specs.Machine.{machine, entry-of, carry, carry-piece, carried, after-carry}
+use Rattle.engine.specs.Machine.{machine, entry-of, carry, carry-piece, after-carry}
 use Rattle.engine.proofs.Facts.{Codec, Off-at}
 use Rattle.engine.proofs.Course.{go-next, go-record, puts, asks, chosen}
 use Rattle.engine.proofs.Devices.{Firm, firm-off, firm-sides, firm-put, side-first, side-second, longer-long, longer-reads, room-for}
+use Rattle.engine.proofs.CompactFacts.{fits-phase}
 use Rattle.engine.proofs.Pieces.{records-few, long-fits, copy-fits, copy-pages}
 
 -- record j of entry i is asked for, or was put on; s is where the first one came, o how many records the other tape has
@@ -31,7 +30,7 @@ abbrev pub reading : House → ℕ → ℕ → ℕ → ℕ → ℕ → House
 reading x i j n s o = at-phase carry-read (with-carrying (carrying-of i j n s (x .carrying .quota) (x .carrying .waking)) (with-tapes (with-other o (x .tapes)) x))
 
 abbrev pub copied-on : House → ℕ → ℕ → ℕ → ℕ → ℕ → House
-copied-on x i j n s o = at-phase carry-put (with-carrying (carrying-of i j n s (x .carrying .quota) (x .carrying .waking)) (with-tapes (with-other o (x .tapes)) x))
+copied-on x i j n s o = at-phase carry-put (reading x i j n s o)
 
 -- and the entry was carried
 abbrev pub moved : House → ℕ → ℕ → ℕ → House
@@ -59,14 +58,7 @@ fits-reading f h = record {
 }
 
 fits-copied : {x : House} {i j n s o : ℕ} → Fits x → Small-numbers i j n s o → Fits (copied-on x i j n s o)
-fits-copied f h = record {
-  tapes = record { room = f .tapes .room; active = f .tapes .active; generation = f .tapes .generation; used = f .tapes .used; other = h .other; cursor = f .tapes .cursor };
-  store = f .store;
-  job = f .job;
-  walking = f .walking;
-  putting = f .putting;
-  carrying = record { index = h .index; part = h .part; long = h .long; start = h .start; quota = f .carrying .quota };
-}
+fits-copied f h = fits-phase carry-put (fits-reading f h)
 
 -- entry i, which lies on the tape that counts, is the line l
 pub record Entry (codec : Codec) (R : ℕ) (k : Kept) (x : House) (i : ℕ) (l : List ℕ) (d : Device) : Type 0 where

@@ -1,9 +1,9 @@
 -- What acts and stops leave of a device: how long each tape is, and that the other one stays; and a device on which one tape counts, whatever becomes of the
 -- other. Assumes nothing.
-use mathlib.Core.Path.{_≡_, refl, sym, ap, subst, _∙_}
+use mathlib.Core.Path.{_≡_, refl, sym, ap, _∙_}
 use mathlib.Core.Bool.{Bool, true, false}
-use mathlib.Core.List.{List, [], _∷_, _++_, map, append-nil}
-use mathlib.Core.Logic.{_⊎_, inl, inr}
+use mathlib.Core.List.{List, [], _∷_, _++_, append-nil}
+use mathlib.Core.Logic.{_⊎_}
 use Prim.Native.Nat.{ℕ, zero, suc, _+_, _-_, _≤_, _<_}
 use native.Mathlib.Omega.{arith}
 use lib.Dec.{eqb}
@@ -13,10 +13,10 @@ use Rattle.plain.specs.Pattern.{pick}
 use Rattle.plain.specs.Device.{Device, Page, Tape, tape, tape-of, half, lesser, left, stopped, longer, fastened, anew, read-record, a-page}
 use Rattle.plain.specs.Promise.{all-longer}
 use Rattle.plain.specs.Run.{has-room}
-use Rattle.journal.specs.Log.{Position, Rec, Sides, ahead, back, head-of, next-generation, tapes}
+use Rattle.journal.specs.Log.{Position, Sides, ahead, back, head-of, next-generation, In-cycle, cycle-1, cycle-2, cycle-3}
 use Rattle.journal.specs.Small.{updated, no-state}
-use Rattle.records.specs.Pages.{record-of}
-use Rattle.journal.proofs.Contents.{Layout, layout-old-is, layout-new-is}
+use Rattle.journal.specs.Pages.{record-of}
+use Rattle.journal.proofs.Contents.{layout-old-is}
 use Rattle.journal.proofs.Lifecycle as lifecycle
 use Rattle.commands.specs.Kept.{Kept}
 use Rattle.commands.specs.Smalls.{smalls-of}
@@ -48,6 +48,12 @@ pub sides-low : (x : ℕ) → x < 2 → Sides x (1 - x)
 sides-low zero h = ahead
 sides-low (suc zero) h = back
 sides-low (suc (suc x)) h = absurd (omega arith)
+
+-- generations
+pub cycle-bounds : {g : ℕ} → In-cycle g → (1 ≤ g) × (g ≤ 3)
+cycle-bounds cycle-1 = omega arith
+cycle-bounds cycle-2 = omega arith
+cycle-bounds cycle-3 = omega arith
 
 -- ACTS on the second tape, or on the first
 module _ (d : Device) where
@@ -157,7 +163,9 @@ module _ (codec : Codec) (R : ℕ) (k : Kept) where
 
     pub firm-begin : Firm (anew d y) x y g
     firm-begin = record {
-      live = h .live; used = h .used; dir = h .dir;
+      live = h .live;
+      used = h .used;
+      dir = h .dir;
       log = lifecycle.active-begin updated no-state Replay-fits record-of (codec .torn) (h .log);
       room = anew-room d firm-sides ∙ h .room;
       used-fits = h .used-fits;
@@ -166,7 +174,9 @@ module _ (codec : Codec) (R : ℕ) (k : Kept) where
 
     pub firm-put : (p : Page) → (head-of (record-of p) ≡ 0) ⊎ (head-of (record-of p) ≡ next-generation g) → length (tape-of d y .records) < R → Firm (longer d y p) x y g
     firm-put p e l = record {
-      live = h .live; used = h .used; dir = h .dir;
+      live = h .live;
+      used = h .used;
+      dir = h .dir;
       log = lifecycle.active-put updated no-state Replay-fits record-of (codec .torn) p (h .log) e;
       room = longer-room d p firm-sides ∙ h .room;
       used-fits = h .used-fits;
@@ -175,7 +185,9 @@ module _ (codec : Codec) (R : ℕ) (k : Kept) where
 
     pub firm-fasten : Firm (fastened d y) x y g
     firm-fasten = record {
-      live = h .live; used = h .used; dir = h .dir;
+      live = h .live;
+      used = h .used;
+      dir = h .dir;
       log = lifecycle.active-fasten updated no-state Replay-fits record-of (codec .torn) (h .log);
       room = fastened-room d firm-sides ∙ h .room;
       used-fits = h .used-fits;

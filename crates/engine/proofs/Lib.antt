@@ -17,6 +17,7 @@ pub mod CompactCarry
 pub mod Setup
 pub mod CompactBegin
 pub mod Compact
-pub mod Fetching
-pub mod Walking
-pub mod Joining
+pub mod WakeFacts
+pub mod WakeReplay
+pub mod WakeFresh
+pub mod Wake

@@ -1,21 +1,19 @@
 -- Lines in records: how many pieces a line has, which they are, and that each fits a record. Assumes nothing.
-use mathlib.Core.Path.{_≡_, refl, sym, ap, subst, _∙_}
-use mathlib.Core.Bool.{Bool, true, false, _&&_}
-use mathlib.Core.List.{List, [], _∷_, _++_, map}
-use mathlib.Core.Logic.{_⊎_, inl, inr}
+use mathlib.Core.Path.{_≡_, refl, sym, ap, _∙_}
+use mathlib.Core.Bool.{Bool, true, false}
+use mathlib.Core.List.{List, [], _∷_, map}
 use Prim.Native.Nat.{ℕ, zero, suc, _+_, _*_, _-_, _≤_, _<_}
 use native.Mathlib.Omega.{arith}
 use native.Mathlib.Nat.{add-zero}
 use lib.Dec.{ltb, leb}
 use lib.ListN.{length, getD, take, drop, length-take, List·getD-map}
 use Rattle.std.proofs.shelf.Lists.{getD-default}
-use Rattle.std.proofs.shelf.Tests.{and-parts, leb-true, cases-bool, ltb-true}
-use Rattle.plain.specs.Pattern.{pick, every, all-bytes, flat}
+use Rattle.std.proofs.shelf.Tests.{and-parts, leb-true}
+use Rattle.plain.specs.Pattern.{pick, every, all-bytes}
 use Rattle.plain.specs.House.{File}
 use Rattle.plain.proofs.Basics.{every-append}
-use Rattle.journal.specs.Log.{Rec, copy, Piece, piece, no-piece, Packed, pieces-of, copies, copy-records}
-use Rattle.journal.specs.Small.{News}
-use Rattle.records.specs.Pages.{page-of, record-of}
+use Rattle.journal.specs.Log.{copy, no-piece, pieces-of, copies, copy-records}
+use Rattle.journal.specs.Pages.{page-of, record-of}
 use Rattle.commands.specs.Kept.{Kept, directory, fit-line, fit-lines, fit-file, fit-name, file-lines, Sound}
 use Rattle.engine.specs.Fits.{Word, Piece-fits, Record-fits}
 use Rattle.engine.specs.Packing.{records-of, piece-of, pieces-from, packed, packs}

@@ -1,20 +1,20 @@
 -- The records that set the small state up on a new tape: each fits a record, and every state on the way fits the memory. Assumes nothing.
 use mathlib.Core.Path.{_≡_, refl, sym, ap, subst, _∙_}
-use mathlib.Core.Bool.{Bool, true, false, _&&_}
+use mathlib.Core.Bool.{true}
 use mathlib.Core.List.{List, [], _∷_, _++_, map, append-assoc, append-nil}
-use Prim.Native.Nat.{ℕ, zero, suc, _+_, _*_, _-_, _≤_, _<_}
+use Prim.Native.Nat.{ℕ, zero, suc, _+_, _≤_}
 use native.Mathlib.Omega.{arith}
-use lib.Dec.{ltb, leb}
-use lib.ListN.{length, getD, take, drop, length-append}
+use lib.Dec.{ltb}
+use lib.ListN.{length, take, drop, length-append}
 use lib.Seq.{take-all}
 use Rattle.std.proofs.shelf.Lists.{drop-all}
 use Rattle.std.proofs.shelf.Tests.{lt-ltb, ltb-true, and-parts}
-use Rattle.plain.specs.Pattern.{pick, every}
+use Rattle.plain.specs.Pattern.{every}
 use Rattle.plain.proofs.Basics.{every-append}
-use Rattle.journal.specs.Log.{Rec, head, commit, no-splice, set-up, settled, begin-records}
-use Rattle.journal.specs.Small.{Entry, Small, small, no-state, News, news, push, slot, nothing-else, pushed, updated, pushes, slots, set-up-of}
-use Rattle.records.specs.Pages.{page-of, record-of}
-use Rattle.engine.specs.Fits.{Word, words, entry-fits, Small-fits, Replay-fits, News-fits, Record-fits}
+use Rattle.journal.specs.Log.{set-up, settled}
+use Rattle.journal.specs.Small.{Entry, Small, small, no-state, News, news, nothing-else, pushed, updated, pushes, slots, set-up-of}
+use Rattle.journal.specs.Pages.{page-of, record-of}
+use Rattle.engine.specs.Fits.{Word, words, entry-fits, Small-fits, News-fits, Record-fits}
 use Rattle.engine.proofs.Facts.{Codec}
 
 -- EACH FITS A RECORD

@@ -1,13 +1,13 @@
 -- How many records of the lines lie on which tape, and what they weigh. Assumes nothing.
-use mathlib.Core.Path.{_≡_, refl, sym, ap, subst, _∙_}
+use mathlib.Core.Path.{_≡_, refl, sym, _∙_}
 use mathlib.Core.Bool.{Bool, true, false}
-use mathlib.Core.List.{List, [], _∷_, _++_, map}
+use mathlib.Core.List.{List, [], _∷_, _++_}
 use mathlib.Core.Logic.{_⊎_, inl, inr}
-use Prim.Native.Nat.{ℕ, zero, suc, _+_, _*_, _-_, _≤_, _<_}
+use Prim.Native.Nat.{ℕ, zero, suc, _+_, _*_, _≤_, _<_}
 use native.Mathlib.Omega.{arith}
 use lib.Dec.{eqb, ltb}
-use lib.ListN.{length, getD, take, drop, set}
-use Rattle.std.proofs.shelf.Tests.{eq-eqb, ne-eqb, eqb-true, ltb-true, ltb-false, cases-bool}
+use lib.ListN.{length, getD, set}
+use Rattle.std.proofs.shelf.Tests.{eq-eqb, ne-eqb, ltb-true}
 use Rattle.plain.specs.Pattern.{pick, added-up}
 use Rattle.plain.specs.House.{File}
 use Rattle.plain.proofs.Basics.{added-append}
