@@ -1,9 +1,9 @@
 -- The end of a command: what was to be kept is, and the last rows are shown. Assumes nothing.
 use mathlib.Core.Path.{_≡_, refl, sym, ap, subst, _∙_}
 use mathlib.Core.Bool.{Bool, true, false}
-use mathlib.Core.List.{List, [], _∷_, _++_, append-nil, append-assoc}
-use mathlib.Core.Logic.{_⊎_, inl, inr}
-use Prim.Native.Nat.{ℕ, zero, suc, _+_, _*_, _-_, _≤_, _<_}
+use mathlib.Core.List.{List, [], _∷_, _++_, append-assoc}
+use mathlib.Core.Logic.{inr}
+use Prim.Native.Nat.{ℕ, suc, _-_, _<_}
 use native.Mathlib.Omega.{arith}
 use lib.Dec.{ltb}
 use lib.ListN.{length, getD, drop, length-drop}
@@ -14,21 +14,17 @@ use Rattle.plain.specs.House.{Plain, File, core}
 use Rattle.plain.specs.House as plain-house
 use Rattle.plain.specs.Device.{Device, stopped}
 use Rattle.plain.specs.Promise.{May}
-use Rattle.journal.specs.Log.{Position, Rec}
-use Rattle.journal.specs.Small.{Entry, News, updated, no-state}
-use Rattle.records.specs.Pages.{record-of}
-use Rattle.journal.proofs.Contents.{Layout}
-use Rattle.journal.proofs.Lifecycle as lifecycle
+use Rattle.journal.specs.Small.{Entry}
 use Rattle.journal.proofs.Machine.{after-did, is-over}
 use Rattle.commands.specs.Kept.{Kept}
 use Rattle.commands.specs.Plan.{Rows, no-row, a-number, all-files, table}
 use Rattle.commands.specs.Turn.{more-rows}
-use Rattle.engine.specs.State.{House, house, Phase, idle, count-shown, file-shown, Job, Walking, Putting, Carrying, at-phase, with-carrying, passive}
-use Rattle.engine.specs.Fits.{Fits, Replay-fits, Carrying-fits, Putting-fits}
+use Rattle.engine.specs.State.{House, house, Phase, idle, count-shown, file-shown, Job, Walking, Putting, Carrying, at-phase, with-carrying}
+use Rattle.engine.specs.Fits.{Fits, Carrying-fits}
 use Rattle.engine.specs.Machine.{Does, ends-done, finish, finish-row, show-files, file-row, no-entry, with-index}
-use Rattle.engine.proofs.Facts.{Codec, Off-at, Powered, Quiet, Busy, Rest, quiet, busy, Idle}
+use Rattle.engine.proofs.Facts.{Codec, Off-at, Powered, Quiet, Busy, Rest, quiet, busy}
 use Rattle.engine.proofs.Course.{Course, Stop, Leads, On-course, ends, go-next, chosen}
-use Rattle.engine.proofs.PassDevices.{Bounded, bounded-sides, off-at-by, layout-old-count}
+use Rattle.engine.proofs.CompactFacts.{quiet-rests, busy-rests}
 
 -- WHAT RESTS is a matter of the tapes and of what is stored alone
 abbrev beside : House → Phase → Job → Walking → Putting → Carrying → House
@@ -62,21 +58,9 @@ fits-as ph c g f = record { tapes = f .tapes; store = f .store; job = f .job; wa
 
 -- and a stop leaves it
 module _ (codec : Codec) {R : ℕ} {d : Device} {x : House} {k : Kept} where
-  pub powered-bounded : {T F L : List (Rec News)} → Powered codec R d x k → Layout record-of d (x .tapes .active) (passive x) T [] F L → length T ≡ x .tapes .used → Bounded R d
-  powered-bounded {T} h l u =
-      let e = layout-old-count l ∙ ap length (append-nil T) in bounded-sides (l .sides) (h .device-room) (let a = h .used-fits in omega arith) (h .other-fits)
-
-  pub quiet-off : {live : Bool} → Quiet codec R live d x k → (cs : List ℕ) → Off-at R (stopped d cs) k
-  quiet-off h cs = off-at-by cs (powered-bounded (h .powered) (h .log .layout) (h .log .used)) (lifecycle.active-rests updated no-state Replay-fits record-of (codec .torn) cs (h .log))
-
-  pub busy-off : {live : Bool} → Busy codec R live d x k → (cs : List ℕ) → Off-at R (stopped d cs) k
-  busy-off h cs =
-      off-at-by cs (powered-bounded (h .powered) (h .log .layout) (h .log .used))
-      (lifecycle.active-rests updated no-state Replay-fits record-of (codec .torn) cs (lifecycle.copying-active updated no-state Replay-fits record-of (codec .torn) (h .log)))
-
   pub rest-off : Rest codec R d x k → (cs : List ℕ) → Off-at R (stopped d cs) k
-  rest-off (quiet h l) cs = quiet-off h cs
-  rest-off (busy S h l) cs = busy-off h cs
+  rest-off (quiet h l) cs = quiet-rests codec h cs
+  rest-off (busy S h l) cs = busy-rests codec h cs
 
   pub rest-small : Rest codec R d x k → Powered codec R d x k
   rest-small (quiet h l) = h .powered

@@ -1,15 +1,13 @@
 -- What the acts make of the device's two tapes: how many records lie there, before and after a stop. Assumes nothing.
-use mathlib.Core.Path.{_≡_, refl, sym, ap, subst, _∙_}
-use mathlib.Core.Bool.{Bool, true, false, _&&_}
-use mathlib.Core.List.{List, [], _∷_, _++_, map, append-assoc, append-nil}
-use Prim.Native.Nat.{ℕ, zero, suc, _+_, _-_, _≤_, _<_}
+use mathlib.Core.Path.{_≡_, refl, sym, ap, _∙_}
+use mathlib.Core.Bool.{Bool, true, false}
+use mathlib.Core.List.{List, [], _∷_, _++_}
+use Prim.Native.Nat.{ℕ, suc, _+_, _≤_}
 use native.Mathlib.Omega.{arith}
-use lib.Dec.{eqb, ltb}
-use lib.ListN.{length, getD, take, drop, length-append, length-map}
-use Rattle.std.proofs.shelf.Tests.{lt-ltb}
+use lib.Dec.{eqb}
+use lib.ListN.{length, getD, length-append, length-map}
 use Rattle.plain.specs.Pattern.{pick}
-use Rattle.plain.specs.Device.{Device, Page, Tape, tape, tape-of, with-tape, longer, fastened, lesser, half, left, stopped, a-page}
-use Rattle.plain.specs.Run.{has-room}
+use Rattle.plain.specs.Device.{Device, Page, Tape, tape, tape-of, with-tape, longer, fastened, stopped}
 use Rattle.plain.specs.Promise.{all-longer}
 use Rattle.journal.specs.Log.{Rec, Sides, ahead, back, tapes}
 use Rattle.journal.specs.Small.{News, updated, no-state}
@@ -20,6 +18,7 @@ use Rattle.commands.specs.Kept.{Kept}
 use Rattle.commands.specs.Smalls.{smalls-of}
 use Rattle.engine.specs.Fits.{Replay-fits}
 use Rattle.engine.proofs.Facts.{Off-at, lines-of-kept}
+use Rattle.engine.proofs.Devices.{left-short}
 
 -- ONE TAPE OF TWO
 abbrev one-of : Bool → Device → Tape → Device
@@ -73,20 +72,7 @@ fastened-room d t = with-tape-room d t _
 pub fastened-count : (d : Device) (t : ℕ) → length (tape-of (fastened d t) t .records) ≡ length (tape-of d t .records)
 fastened-count d t = ap (λ z. length (z .records)) (with-tape-at d t _)
 
--- A STOP leaves no more than there was
-half-shorter : (n : ℕ) (b : Bool) (rs : List Page) → length (take n rs ++ pick b (half (drop n rs)) []) ≤ length rs
-unfolding half
-half-shorter zero true [] = omega arith
-half-shorter zero false [] = omega arith
-half-shorter zero true (r ∷ rs) = omega arith
-half-shorter zero false (r ∷ rs) = omega arith
-half-shorter (suc n) true [] = omega arith
-half-shorter (suc n) false [] = omega arith
-half-shorter (suc n) b (r ∷ rs) = let h = half-shorter n b rs in omega arith
-
-pub left-shorter : (z : Tape) (n h : ℕ) → length (left z n h .records) ≤ length (z .records)
-left-shorter z n h = half-shorter (length (z .records) - z .loose + lesser n (z .loose)) (eqb h 1) (z .records)
-
+-- A STOP
 -- neither tape has more records than there is room for
 pub record Bounded (R : ℕ) (d : Device) : Type 0 where
   pub room : d .room ≡ R
@@ -103,8 +89,8 @@ off-at-by {R} {d} cs b h = record {
   room = b .room;
   fast-first = refl;
   fast-second = refl;
-  fits-first = let q = left-shorter (d .first) (getD cs 0 0) (getD cs 1 0) in let l = b .first in omega arith;
-  fits-second = let q = left-shorter (d .second) (getD cs 2 0) (getD cs 3 0) in let l = b .second in omega arith;
+  fits-first = let q = left-short (d .first) (getD cs 0 0) (getD cs 1 0) in let l = b .first in omega arith;
+  fits-second = let q = left-short (d .second) (getD cs 2 0) (getD cs 3 0) in let l = b .second in omega arith;
   log = h;
 }
 
@@ -114,12 +100,3 @@ layout-old-count {v} {x} h = sym (length-map (tape-of v x .records) record-of) �
 
 pub layout-new-count : {v : Device} {x y : ℕ} {T P F L : List (Rec News)} → Layout record-of v x y T P F L → length (tape-of v y .records) ≡ length (F ++ L)
 layout-new-count {v} {x} {y} h = sym (length-map (tape-of v y .records) record-of) ∙ ap length (layout-new-is record-of h)
-
-pub sides-below : {x y : ℕ} → Sides x y → (x < 2) × (y < 2)
-sides-below ahead = (omega arith, omega arith)
-sides-below back = (omega arith, omega arith)
-
--- there is room for one more
-pub room-for : {R : ℕ} (d : Device) (t : ℕ) (p : Page) → t < 2 → d .room ≡ R → length (tape-of d t .records) < R → a-page p ≡ true → has-room d t p ≡ true
-room-for d t p s r l q =
-    let a = lt-ltb t 2 s in let b : ltb (length (tape-of d t .records)) (d .room) ≡ true = lt-ltb (length (tape-of d t .records)) (d .room) (omega arith) in rw (a, b) q

@@ -1,18 +1,18 @@
 -- A command while entries are carried to the other tape: its records on the tape that counts, fast, and then on the other one. Assumes nothing.
 use mathlib.Core.Path.{_≡_, refl, sym, ap, subst, _∙_}
 use mathlib.Core.Bool.{Bool, true, false}
-use mathlib.Core.List.{List, [], _∷_, _++_, map, append-nil}
-use Prim.Native.Nat.{ℕ, zero, suc, _+_, _*_, _-_, _≤_, _<_}
+use mathlib.Core.List.{List, [], _++_, append-nil}
+use Prim.Native.Nat.{ℕ, suc, _+_, _*_, _≤_}
 use native.Mathlib.Omega.{arith}
 use lib.ListN.{length, take, drop, length-map}
 use Rattle.plain.specs.House.{Plain}
 use Rattle.plain.specs.Device.{Device, tape-of, fastened}
 use Rattle.plain.specs.Promise.{all-longer}
-use Rattle.journal.specs.Log.{Position, Splice, Rec, apply, positions, Sides, ahead, back}
+use Rattle.journal.specs.Log.{Position, apply, positions}
 use Rattle.journal.specs.Room.{Carrying}
 use Rattle.journal.specs.Small.{updated, no-state}
-use Rattle.records.specs.Pages.{record-of}
-use Rattle.journal.proofs.Alike.{alike-length, length-apply}
+use Rattle.journal.specs.Pages.{record-of}
+use Rattle.journal.proofs.Alike.{alike-length}
 use Rattle.journal.proofs.Lifecycle as lifecycle
 use Rattle.journal.proofs.Machine.{after-did}
 use Rattle.journal.proofs.Waiting.{waiting, Behind}
@@ -23,19 +23,16 @@ use Rattle.engine.specs.State.{House, Phase, commit-put, commit-fast, passive}
 use Rattle.engine.specs.Fits.{Fits, Replay-fits}
 use Rattle.engine.specs.Packing.{lines-records, packs, records-on}
 use Rattle.engine.specs.Machine.{Does, need, news-of, cursor-after, start-pass, finish, threshold}
-use Rattle.engine.proofs.Facts.{Codec, Safe, Powered, Busy, Rest, busy}
+use Rattle.engine.proofs.Facts.{Codec, Safe, Busy, Rest, busy}
 use Rattle.engine.proofs.Course.{Course, Leads, On-course, stops, go-next, fastens, chosen}
-use Rattle.engine.proofs.PassDevices.{all-longer-room, all-longer-count, all-longer-beside, with-tape-beside, fastened-room, sides-below, layout-new-count}
-use Rattle.engine.proofs.Finish.{rest-off, finish-leads}
+use Rattle.engine.proofs.Devices.{side-first, side-second, sides-apart}
+use Rattle.engine.proofs.PassDevices.{all-longer-room, all-longer-count, all-longer-beside, with-tape-beside, fastened-room, layout-new-count}
+use Rattle.engine.proofs.Finish.{finish-leads}
 use Rattle.engine.proofs.PutRecords.{pages, positions-fit, positions-count}
 use Rattle.engine.proofs.PutPass.{midway, brought, fits-midway, Passing, pass-goes}
-use Rattle.engine.proofs.PutBrings.{Bringing, One, Two, first-fast, second-room, second-safe, both-on, pages-count}
+use Rattle.engine.proofs.PutBrings.{Bringing, Two, first-fast, second-room, second-safe, both-on, pages-count}
 use Rattle.engine.proofs.PutCommit.{committed, commit-first, commit-second, dir-fits, fits-committed, passing-first, committed-small}
 use Rattle.engine.proofs.Splices.{Only-new, apply-new, behind-after, cursor-below, positions-behind}
-
-sides-apart : {x y : ℕ} → Sides x y → y ≡ x → ⊥
-sides-apart ahead e = omega arith
-sides-apart back e = omega arith
 
 module _ (codec : Codec) (R n : ℕ) {w : Plain} {t : List ℕ} (C : Course R w t) where
   -- before the first record
@@ -76,7 +73,7 @@ module _ (codec : Codec) (R n : ℕ) {w : Plain} {t : List ℕ} (C : Course R w 
         let q = h .powered .at-most in
         let e = positions-count (x .tapes .active) (x .tapes .used) (x .job .lines) in
         fits-midway false ph (suc first-count) first-positions [] 0 f (omega arith) (let z = b .few in omega (arith, e))
-        (positions-fit (x .tapes .active) (x .tapes .used) (x .job .lines) (sides-below (h .log .layout .sides) .0) (omega arith)) (omega arith)
+        (positions-fit (x .tapes .active) (x .tapes .used) (x .job .lines) (side-first (h .log .layout .sides)) (omega arith)) (omega arith)
 
     between-room : fastened on-first (x .tapes .active) .room ≡ R
     between-room = fastened-room on-first (x .tapes .active) ∙ all-longer-room d (x .tapes .active) (pages (brought x)) ∙ h .powered .device-room
@@ -113,7 +110,7 @@ module _ (codec : Codec) (R n : ℕ) {w : Plain} {t : List ℕ} (C : Course R w 
         let c = cursor-end in
         let v = g .few in
         fits-committed true commit-put second-count second-positions (between-fits commit-fast) (omega arith)
-        (positions-fit (passive x) (x .tapes .other) (x .job .lines) (sides-below (h .log .layout .sides) .1) (omega arith)) g (omega (arith, c, v))
+        (positions-fit (passive x) (x .tapes .other) (x .job .lines) (side-second (h .log .layout .sides)) (omega arith)) g (omega (arith, c, v))
 
     end-rest : (S : ℕ) →
         Carrying R (threshold R) (x .tapes .used + need x) (x .tapes .other + need x)
@@ -178,7 +175,7 @@ module _ (codec : Codec) (R n : ℕ) {w : Plain} {t : List ℕ} (C : Course R w 
         held = held;
         light = here .light;
         fits = f₁ commit-fast;
-        below = sides-below (h .log .layout .sides) .1;
+        below = side-second (h .log .layout .sides);
         few = b .few;
         most = let q = here .at-most in omega arith;
         safe = second-safe codec b two room₂ fits long₂ more-fits;

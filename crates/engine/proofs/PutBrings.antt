@@ -1,17 +1,16 @@
 -- What a command brings, and the tapes while its records are put on: a stop at each of them, room for each, and what is kept once they are fast.
 -- Assumes nothing.
 use mathlib.Core.Path.{_≡_, refl, sym, ap, subst, _∙_}
-use mathlib.Core.Bool.{Bool, true, false}
-use mathlib.Core.List.{List, [], _∷_, _++_, map, append-nil, append-assoc}
-use mathlib.Core.Logic.{_⊎_, inl, inr}
-use Prim.Native.Nat.{ℕ, zero, suc, _+_, _*_, _-_, _≤_, _<_}
+use mathlib.Core.Bool.{true}
+use mathlib.Core.List.{List, [], _∷_, _++_, map, append-nil}
+use mathlib.Core.Logic.{inl, inr}
+use Prim.Native.Nat.{ℕ, suc, _+_, _≤_}
 use native.Mathlib.Omega.{arith}
 use lib.ListN.{length, length-append, length-map}
-use Rattle.plain.specs.Device.{Device, Page, tape-of, longer, fastened, stopped}
+use Rattle.plain.specs.Device.{Device, tape-of, fastened, stopped}
 use Rattle.plain.specs.Run.{has-room}
 use Rattle.plain.specs.Promise.{all-longer}
-use Rattle.plain.proofs.Basics.{In}
-use Rattle.journal.specs.Log.{Position, Splice, Rec, apply, Packed, positions, command-records, head-of, next-generation, Sides, tapes}
+use Rattle.journal.specs.Log.{Position, Splice, Rec, apply, Packed, positions, command-records, head-of, tapes}
 use Rattle.journal.specs.Small.{Small, News, updated, no-state}
 use Rattle.records.specs.Pages.{page-of, record-of}
 use Rattle.journal.proofs.Alike.{apply-natural}
@@ -23,9 +22,10 @@ use Rattle.commands.specs.Kept.{Kept, directory, fit-lines}
 use Rattle.commands.specs.Smalls.{smalls-of}
 use Rattle.engine.specs.Fits.{Splice-fits, News-fits, Replay-fits}
 use Rattle.engine.specs.Packing.{lines-records, packed, packs}
-use Rattle.engine.proofs.Facts.{Codec, Off-at, Safe}
-use Rattle.engine.proofs.PassDevices.{Bounded, bounded-sides, off-at-by, all-longer-room, all-longer-count, all-longer-beside, layout-old-count, layout-new-count, sides-below, room-for}
-use Rattle.engine.proofs.PutRecords.{pages, pages-read, Belongs, All-belong, first-belong, next-belongs, command-belongs, command-count}
+use Rattle.engine.proofs.Facts.{Codec, Safe}
+use Rattle.engine.proofs.Devices.{side-first, side-second, room-for}
+use Rattle.engine.proofs.PassDevices.{Bounded, bounded-sides, off-at-by, all-longer-room, all-longer-count, all-longer-beside, layout-old-count}
+use Rattle.engine.proofs.PutRecords.{pages, pages-read, All-belong, first-belong, next-belongs, command-belongs, command-count}
 
 -- the lines of a directory, packed, under a splice
 pub packs-apply : (c : Splice) (ls new : List (List ℕ)) → apply c (packs ls) (packs new) ≡ packs (apply c ls new)
@@ -86,7 +86,7 @@ module _ (codec : Codec) where
       pub first-room : (P : List (Rec News)) (r : Rec News) (Q : List (Rec News)) → P ++ r ∷ Q ≡ all-of → has-room (all-longer v x (pages P)) x (page-of r) ≡ true
       first-room P r Q e =
           let a = count-then P (r ∷ Q) e in
-          room-for {R = R} (all-longer v x (pages P)) x (page-of r) (sides-below (h .layout .sides) .0) (all-longer-room v x (pages P) ∙ room) (omega (arith, a))
+          room-for (all-longer v x (pages P)) x R (length (tape-of (all-longer v x (pages P)) x .records)) (page-of r) (side-first (h .layout .sides)) (all-longer-room v x (pages P) ∙ room) refl (omega (arith, a))
           (codec .pages r (next-belongs P r Q e belong .fits))
 
       pub first-bounded : (P Q : List (Rec News)) → length (tape-of v y .records) ≤ R → P ++ Q ≡ all-of → Bounded R (all-longer v x (pages P))
@@ -133,7 +133,7 @@ module _ (codec : Codec) where
       second-room P r Q e =
           let a = all-longer-count v y (pages P) in
           let f = first-few P (r ∷ Q) e in
-          room-for {R = R} (all-longer v y (pages P)) y (page-of r) (sides-below (h .layout .sides) .1) (all-longer-room v y (pages P) ∙ room) (omega (arith, a, f))
+          room-for (all-longer v y (pages P)) y R (length (tape-of (all-longer v y (pages P)) y .records)) (page-of r) (side-second (h .layout .sides)) (all-longer-room v y (pages P) ∙ room) refl (omega (arith, a, f))
           (codec .pages r (next-belongs P r Q e belong .fits))
 
       pub second-safe : (P Q : List (Rec News)) → P ++ Q ≡ all-of → Safe R (all-longer v y (pages P)) k k₁

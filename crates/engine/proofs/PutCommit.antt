@@ -1,37 +1,38 @@
 -- The commit of a command, applied in memory as it is put on, and a command on one tape alone. Assumes nothing.
 use mathlib.Core.Path.{_≡_, refl, sym, ap, subst, _∙_}
 use mathlib.Core.Bool.{Bool, true, false, not}
-use mathlib.Core.List.{List, [], _∷_, _++_, map, append-nil}
-use Prim.Native.Nat.{ℕ, zero, suc, _+_, _*_, _-_, _≤_, _<_}
+use mathlib.Core.List.{List, [], append-nil}
+use Prim.Native.Nat.{ℕ, suc, _+_, _-_, _≤_}
 use native.Mathlib.Omega.{arith}
 use lib.Dec.{leb, leb·zero}
 use lib.ListN.{length, length-map}
 use Rattle.plain.specs.Pattern.{pick}
 use Rattle.plain.specs.House.{Plain}
-use Rattle.plain.specs.Device.{Device, Page, tape-of, fastened}
-use Rattle.plain.specs.Run.{next, put-on}
+use Rattle.plain.specs.Device.{Device, tape-of, fastened}
+use Rattle.plain.specs.Run.{put-on}
 use Rattle.plain.specs.Promise.{all-longer}
-use Rattle.journal.specs.Log.{Position, Splice, Rec, State, state, apply, Packed, positions, Sides}
-use Rattle.journal.specs.Small.{Small, News, updated}
-use Rattle.journal.specs.Machine.{Did, did}
-use Rattle.records.specs.Pages.{page-of}
+use Rattle.journal.specs.Log.{Position, state, apply, positions}
+use Rattle.journal.specs.Small.{updated}
+use Rattle.journal.specs.Machine.{did}
+use Rattle.journal.specs.Pages.{page-of}
 use Rattle.journal.proofs.Alike.{alike-length, length-apply}
-use Rattle.journal.proofs.Machine.{going, after-did}
-use Rattle.commands.specs.Kept.{Kept, kept-weight, directory}
+use Rattle.journal.proofs.Machine.{after-did}
+use Rattle.commands.specs.Kept.{Kept, directory}
 use Rattle.commands.specs.Held.{Held}
 use Rattle.commands.specs.Smalls.{smalls-of}
 use Rattle.commands.specs.Turn.{more-rows}
-use Rattle.engine.specs.State.{House, house, Phase, commit-put, commit-fast, Tapes, at-phase, with-store, with-tapes, with-cursor, putting-of, passive}
+use Rattle.engine.specs.State.{House, house, Phase, commit-put, commit-fast, at-phase, with-store, with-tapes, with-cursor, putting-of, passive}
 use Rattle.engine.specs.Fits.{Fits, Small-fits, Positions-fit, none}
 use Rattle.engine.specs.Packing.{lines-records, packs}
 use Rattle.engine.specs.Machine.{Does, need, news-of, commit-of, cursor-after, cursor-then, applied, target-longer, put-commit, start-pass, finish, threshold}
 use Rattle.engine.proofs.Facts.{Codec, Powered, Quiet, Rest, quiet}
 use Rattle.engine.proofs.Course.{Course, Leads, On-course, stops, go-next, fastens, chosen}
-use Rattle.engine.proofs.PassDevices.{all-longer-room, all-longer-beside, with-tape-beside, fastened-room, sides-below}
+use Rattle.engine.proofs.Devices.{side-first}
+use Rattle.engine.proofs.PassDevices.{all-longer-room, all-longer-beside, with-tape-beside, fastened-room}
 use Rattle.engine.proofs.Finish.{stops-then, rest-off, finish-leads}
 use Rattle.engine.proofs.PutRecords.{pages, fit-apply, positions-fit, positions-count}
 use Rattle.engine.proofs.PutPass.{counted, midway, side, brought, tapes-counted, Passing, pass-goes}
-use Rattle.engine.proofs.PutBrings.{Bringing, One, lines-then, first-room, first-safe, first-fast}
+use Rattle.engine.proofs.PutBrings.{Bringing, One, first-room, first-safe, first-fast}
 
 -- WHERE THE MACHINE IS when the commit is on, the last of those that are put on: m records before it
 abbrev pub committed : Bool → Phase → ℕ → List Position → House → House
@@ -47,15 +48,15 @@ commit-by : (ph : Phase) (m : ℕ) (P : List Position) (x : House) (b : Bool) �
     put-commit (midway false ph m P [] 0 x)
     ≡ did (pick (not b) (committed false commit-put m P x) (midway false commit-put (suc m) P [] 0 x)) (put-on (side false x) (page-of (commit-of x)))
 commit-by ph m P x b e =
-    let y : House = midway false ph m P [] 0 x in
-    ap (λ c. did (at-phase commit-put (pick (not c) (with-store (applied y) (with-tapes (with-cursor (cursor-then y) (target-longer y)) y)) (with-tapes (target-longer y) y))) (put-on (side false x) (page-of (commit-of x)))) e
-    ∙ go b
+    ap by-choice e ∙ go b
   where
-    y₁ : House
-    y₁ = midway false ph m P [] 0 x
+    y : House
+    y = midway false ph m P [] 0 x
 
-    go : (c : Bool) → did (at-phase commit-put (pick (not c) (with-store (applied y₁) (with-tapes (with-cursor (cursor-then y₁) (target-longer y₁)) y₁)) (with-tapes (target-longer y₁) y₁))) (put-on (side false x) (page-of (commit-of x)))
-        ≡ did (pick (not c) (committed false commit-put m P x) (midway false commit-put (suc m) P [] 0 x)) (put-on (side false x) (page-of (commit-of x)))
+    by-choice : Bool → Does
+    by-choice c = did (at-phase commit-put (pick (not c) (with-store (applied y) (with-tapes (with-cursor (cursor-then y) (target-longer y)) y)) (with-tapes (target-longer y) y))) (put-on (side false x) (page-of (commit-of x)))
+
+    go : (c : Bool) → by-choice c ≡ did (pick (not c) (committed false commit-put m P x) (midway false commit-put (suc m) P [] 0 x)) (put-on (side false x) (page-of (commit-of x)))
     go true = refl
     go false = refl
 
@@ -103,7 +104,7 @@ module _ (codec : Codec) (R n : ℕ) {w : Plain} {t : List ℕ} (C : Course R w 
     held = held;
     light = h .light;
     fits = f;
-    below = sides-below (log .layout .sides) .0;
+    below = side-first (log .layout .sides);
     few = b .few;
     most = let q = h .at-most in omega arith;
     safe = first-safe codec b log (h .device-room) l (h .other-fits);

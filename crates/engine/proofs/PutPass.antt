@@ -1,7 +1,7 @@
 -- Putting a command's records on a tape, one at a time, up to its commit. Assumes nothing.
 use mathlib.Core.Path.{_≡_, refl, sym, ap, subst, _∙_}
 use mathlib.Core.Bool.{Bool, true, false}
-use mathlib.Core.List.{List, [], _∷_, _++_, map, map-append, append-nil, append-assoc}
+use mathlib.Core.List.{List, [], _∷_, _++_, map-append, append-nil, append-assoc}
 use Prim.Native.Nat.{ℕ, zero, suc, _+_, _*_, _-_, _≤_, _<_}
 use native.Mathlib.Omega.{arith}
 use lib.Dec.{ltb}
@@ -9,24 +9,25 @@ use lib.ListN.{length, length-append}
 use Rattle.std.proofs.shelf.Tests.{lt-ltb, le-ltb}
 use Rattle.plain.specs.Pattern.{pick}
 use Rattle.plain.specs.House.{Plain}
-use Rattle.plain.specs.Device.{Device, Page, longer}
+use Rattle.plain.specs.Device.{Device, longer}
 use Rattle.plain.specs.Run.{next, put-on, has-room}
 use Rattle.plain.specs.Promise.{all-longer}
-use Rattle.journal.specs.Log.{Position, position, Rec, line, commit, State, state, Packed, pieces-of, parts, line-records, block, positions, command-records}
-use Rattle.journal.specs.Small.{Small, News}
-use Rattle.journal.specs.Machine.{Did, did}
-use Rattle.records.specs.Pages.{page-of}
+use Rattle.journal.specs.Log.{Position, position, Rec, line, commit, state, pieces-of, parts, block, positions, command-records}
+use Rattle.journal.specs.Small.{News}
+use Rattle.journal.specs.Machine.{did}
+use Rattle.journal.specs.Pages.{page-of}
 use Rattle.journal.proofs.Machine.{going, after-act, after-did}
 use Rattle.commands.specs.Kept.{Kept, kept-weight}
 use Rattle.commands.specs.Held.{Held}
 use Rattle.engine.specs.State.{House, house, Phase, line-put, Tapes, putting-of, with-putting, with-used, with-other, passive}
-use Rattle.engine.specs.Fits.{Fits, Tapes-fit, Store-fits, Positions-fit}
+use Rattle.engine.specs.Fits.{Fits, Tapes-fit, Positions-fit}
 use Rattle.engine.specs.Packing.{records-of, lines-records, piece-of, pieces-from, packed, packs}
-use Rattle.engine.specs.Machine.{Does, need, news-of, commit-of, put-piece, put-commit, put-next, start-pass}
+use Rattle.engine.specs.Machine.{Does, need, news-of, commit-of, put-piece, put-commit, put-next}
 use Rattle.engine.proofs.Facts.{Codec, Safe}
-use Rattle.engine.proofs.Course.{Course, Stop, Leads, On-course, stops, go-next, puts, chosen}
+use Rattle.engine.proofs.Course.{Course, Leads, On-course, stops, go-next, puts, chosen}
 use Rattle.engine.proofs.PassDevices.{all-longer-next}
-use Rattle.engine.proofs.PutRecords.{pages, records-some, records-few, packed-count, command-count, block-count, fit-left, positions-fit, positions-count}
+use Rattle.engine.proofs.Pieces.{records-few, packed-long}
+use Rattle.engine.proofs.PutRecords.{pages, command-count, fit-left, positions-fit, positions-count}
 
 -- WHERE THE MACHINE IS in the middle of it: n records on the tape that gets them, these positions pending, these lines left, and which record of the first
 abbrev pub counted : Bool → ℕ → Tapes → Tapes
@@ -139,7 +140,7 @@ module _ (codec : Codec) (R n : ℕ) {w : Plain} {t : List ℕ} (C : Course R w 
     midway-next l ls j P Q pend E {m₁} {r} b z e c p q g =
         let y : House = midway second line-put m₁ pend (l ∷ ls) j x in
         let a = pending-few pend E p in
-        let f : Fits y = fits-midway second line-put m₁ pend (l ∷ ls) j (h .fits) (count-most P Q e c) (a .0) (a .1) (let v = records-few (length l) in omega arith) in
+        let f : Fits y = fits-midway second line-put m₁ pend (l ∷ ls) j (h .fits) (count-most P Q e c) (a .0) (a .1) (let v = records-few (length l) .1 in omega arith) in
         go-next line-put refl f (stops codec R n C k (h .held) (h .light) (h .safe P Q e) o)
         (chosen (λ v. Leads codec R n C (after-did (on-it P) ss r (put-next (with-putting v y)))) (ltb (suc j) (records-of (length l))) b (putting-of second (l ∷ ls) (suc j)) (putting-of second ls 0) q g)
 
@@ -173,11 +174,11 @@ module _ (codec : Codec) (R n : ℕ) {w : Plain} {t : List ℕ} (C : Course R w 
     lines-lead (l ∷ ls) ph P pend {m₁} {r} s c p g =
         let z : Rec News = line 0 (piece-of l 0) in
         let i : ℕ = records-of (length l) - 1 in
-        let some = records-some (length l) in
+        let some = records-few (length l) .0 in
         let Q : List (Rec News) = parts 1 (pieces-from l 1 i) ++ (block (packs ls) ++ commit-of x ∷ []) in
         let s₁ : P ++ z ∷ Q ≡ brought x = ap (λ v. P ++ z ∷ v) (sym (append-assoc (parts 1 (pieces-from l 1 i)) (block (packs ls)) (commit-of x ∷ []))) ∙ s in
         let here : List Position = position to m₁ ∷ [] in
-        let e : suc m₁ + i ≡ m₁ + length (pieces-of (packed l)) = let q = packed-count l in omega (arith, q) in
+        let e : suc m₁ + i ≡ m₁ + length (pieces-of (packed l)) = let q = packed-long l in omega (arith, q) in
         let p₁ : Pending (suc m₁ + i) (pend ++ here) ls =
         append-assoc pend here (positions to (suc m₁ + i) (packs ls)) ∙ ap (λ a. pend ++ (position to m₁ ∷ positions to a (packs ls))) e ∙ p in
         as-did (on-it P) r (put-piece-is second ph m₁ pend l ls 0 x)

@@ -1,43 +1,28 @@
 -- The records of a command: how many there are, that they fit a page and are read back, and where its lines lie. Assumes nothing.
-use mathlib.Core.Path.{_≡_, refl, sym, ap, subst, _∙_}
-use mathlib.Core.Bool.{Bool, true, false, _&&_}
-use mathlib.Core.List.{List, [], _∷_, _++_, map, append-assoc, append-nil}
-use mathlib.Core.Logic.{_⊎_, inl, inr}
-use Prim.Native.Nat.{ℕ, zero, suc, _+_, _*_, _-_, _≤_, _<_}
+use mathlib.Core.Path.{_≡_, refl, ap, subst, _∙_}
+use mathlib.Core.Bool.{true}
+use mathlib.Core.List.{List, [], _∷_, _++_, map}
+use mathlib.Core.Logic.{inl, inr}
+use Prim.Native.Nat.{ℕ, zero, suc, _+_, _-_, _≤_, _<_}
 use native.Mathlib.Omega.{arith}
-use lib.Dec.{eqb, ltb, leb}
-use lib.ListN.{length, take, drop, length-append, length-take, length-map}
-use Rattle.std.proofs.shelf.Tests.{and-parts, leb-true}
-use Rattle.plain.specs.Pattern.{pick, every, added-up, all-bytes}
+use lib.ListN.{length, take, drop, length-append, length-map}
+use Rattle.std.proofs.shelf.Tests.{and-parts}
 use Rattle.plain.specs.Device.{Page}
 use Rattle.plain.proofs.Basics.{In, in-left, in-right, in-cases}
-use Rattle.journal.specs.Log.{Position, position, Splice, Rec, head, line, copy, commit, broken, Source, no-entries, new-entries, copied, incoming, apply, Piece, Packed, pieces-of, parts, line-records, block, positions, command-records, head-of}
+use Rattle.journal.specs.Log.{Position, Splice, Rec, commit, Source, no-entries, new-entries, copied, incoming, apply, pieces-of, parts, line-records, block, positions, command-records, head-of}
 use Rattle.journal.specs.Small.{News}
 use Rattle.records.specs.Pages.{page-of, record-of}
 use Rattle.journal.proofs.Replay.{length-parts}
 use Rattle.journal.proofs.Through.{length-positions}
 use Rattle.commands.specs.Kept.{fit-line, fit-lines}
-use Rattle.engine.specs.Packing.{records-of, lines-records, piece-of, pieces-from, packed, packs}
-use Rattle.engine.specs.Fits.{Piece-fits, Splice-fits, News-fits, Record-fits, Position-fits, Positions-fit, none, more}
+use Rattle.engine.specs.Packing.{records-of, lines-records, pieces-from, packed, packs}
+use Rattle.engine.specs.Fits.{Splice-fits, News-fits, Record-fits, Positions-fit, none, more}
 use Rattle.engine.proofs.Facts.{Codec}
+use Rattle.engine.proofs.Pieces.{records-few, packed-long, piece-fits}
 
 -- HOW MANY
-pub records-some : (n : ℕ) → 1 ≤ records-of n
-records-some n = grind arith
-
-pub records-few : (n : ℕ) → records-of n ≤ 3
-records-few n = grind arith
-
-pub length-pieces : (l : List ℕ) (j n : ℕ) → length (pieces-from l j n) ≡ n
-unfolding pieces-from
-length-pieces l j zero = refl
-length-pieces l j (suc n) = ap suc (length-pieces l (suc j) n)
-
-pub packed-count : (l : List ℕ) → length (pieces-of (packed l)) ≡ records-of (length l)
-packed-count l = ap suc (length-pieces l 1 (records-of (length l) - 1)) ∙ (let s = records-some (length l) in omega arith)
-
 line-count : (l : List ℕ) → length {A = Rec News} (line-records (packed l)) ≡ records-of (length l)
-line-count l = ap suc (length-parts News 1 (packed l .more)) ∙ packed-count l
+line-count l = ap suc (length-parts News 1 (packed l .more)) ∙ packed-long l
 
 pub block-count : (ls : List (List ℕ)) → length (block {K = News} (packs ls)) ≡ lines-records ls
 unfolding block
@@ -49,25 +34,6 @@ pub command-count : (ls : List (List ℕ)) (c : Splice) (u : News) → length (c
 command-count ls c u = length-append {A = Rec News} (block (packs ls)) (commit c u ∷ []) ∙ (let b = block-count ls in omega (arith, b))
 
 -- THEY FIT
-bytes-take : (n : ℕ) (bs : List ℕ) → all-bytes bs ≡ true → all-bytes (take n bs) ≡ true
-bytes-take zero bs h = refl
-bytes-take (suc n) [] h = refl
-bytes-take (suc n) (b ∷ bs) h = let q = and-parts (ltb b 256) (all-bytes bs) h in rw (q .0) (bytes-take n bs (q .1))
-
-bytes-drop : (n : ℕ) (bs : List ℕ) → all-bytes bs ≡ true → all-bytes (drop n bs) ≡ true
-bytes-drop zero bs h = h
-bytes-drop (suc n) [] h = refl
-bytes-drop (suc n) (b ∷ bs) h = bytes-drop n bs (and-parts (ltb b 256) (all-bytes bs) h .1)
-
-pub piece-fits : (l : List ℕ) (j : ℕ) → fit-line l ≡ true → Piece-fits (piece-of l j)
-piece-fits l j h =
-    let q = and-parts (leb (length l) 1024) (all-bytes l) h in
-    record {
-      long = leb-true (length l) 1024 (q .0);
-      short = simp length-take (omega arith);
-      bytes = bytes-take 503 (drop (503 * j) l) (bytes-drop (503 * j) l (q .1));
-    }
-
 -- a record of a command's lines, or its commit
 pub record Belongs (r : Rec News) : Type 0 where
   pub fits : Record-fits r
@@ -84,7 +50,7 @@ belong-parts l j (suc n) h f r (inr i) = belong-parts l (suc j) n (omega arith) 
 
 belong-line : (l : List ℕ) → fit-line l ≡ true → All-belong (line-records (packed l))
 belong-line l f r (inl e) = subst Belongs e (record { fits = (omega arith, piece-fits l 0 f); no-head = refl })
-belong-line l f r (inr i) = belong-parts l 1 (records-of (length l) - 1) (let q = records-few (length l) in omega arith) f r i
+belong-line l f r (inr i) = belong-parts l 1 (records-of (length l) - 1) (let q = records-few (length l) .1 in omega arith) f r i
 
 belong-block : (ls : List (List ℕ)) → fit-lines ls ≡ true → All-belong (block (packs ls))
 unfolding block
@@ -149,7 +115,7 @@ pub positions-fit : (t m : ℕ) (ls : List (List ℕ)) → t < 2 → m + lines-r
 unfolding positions
 positions-fit t m [] s h = none
 positions-fit t m (l ∷ ls) s h =
-    let e = packed-count l in let q = records-some (length l) in
+    let e = packed-long l in let q = records-few (length l) .0 in
     more (record { tape = s; at = omega arith }) (positions-fit t (m + length (pieces-of (packed l))) ls s (omega (arith, e)))
 
 pub positions-count : (t m : ℕ) (ls : List (List ℕ)) → length (positions t m (packs ls)) ≡ length ls

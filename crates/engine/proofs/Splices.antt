@@ -1,23 +1,24 @@
 -- A splice that brings only new entries, which lie on the other tape: what it makes of the entries still to be carried, of those before the cursor, and of the
 -- records there; and that the tapes don't get full by it. Assumes nothing.
-use mathlib.Core.Path.{_≡_, refl, sym, ap, subst, _∙_}
+use mathlib.Core.Path.{_≡_, refl, sym, ap, _∙_}
 use mathlib.Core.Bool.{Bool, true, false}
 use mathlib.Core.List.{List, [], _∷_, _++_}
-use mathlib.Core.Logic.{_⊎_, inl, inr}
-use Prim.Native.Nat.{ℕ, zero, suc, _+_, _*_, _-_, _/_, _≤_, _<_}
+use Prim.Native.Nat.{ℕ, zero, suc, _+_, _*_, _-_, _≤_, _<_}
 use native.Mathlib.Omega.{arith}
 use lib.Dec.{eqb, leb}
-use lib.ListN.{length, getD, take, drop, length-append, length-take, length-drop, List·getD-append}
+use lib.ListN.{length, take, drop, length-append, length-take, length-drop, List·getD-append}
 use lib.Seq.{getD-take, getD-drop, drop-drop}
 use Rattle.std.proofs.shelf.Tests.{leb-true, leb-false, eq-eqb}
-use Rattle.plain.specs.Pattern.{pick, added-up}
-use Rattle.journal.specs.Log.{Position, position, hole, Source, no-entries, new-entries, copied, Splice, incoming, apply, pieces-of, positions}
+use Rattle.plain.specs.Pattern.{pick}
+use Rattle.journal.specs.Log.{Position, hole, Source, no-entries, new-entries, copied, Splice, incoming, apply, pieces-of, positions}
 use Rattle.journal.specs.Room.{Rooms, Carrying}
 use Rattle.journal.proofs.Waiting.{waiting, waiting-apply, waiting-positions, waiting-none, Behind}
 use Rattle.journal.proofs.Room.{carrying-goes-on}
 use Rattle.engine.specs.Packing.{records-of, lines-records, packed, packs, records-on}
 use Rattle.engine.specs.Machine.{cursor-after, threshold}
-use Rattle.engine.proofs.PutRecords.{records-few, packed-count, positions-count}
+use Rattle.engine.proofs.Pieces.{records-few}
+use Rattle.engine.proofs.Shares.{records-on-append}
+use Rattle.engine.proofs.PutRecords.{positions-count}
 
 -- no copies of entries; and if nothing is to come, nothing was put on
 abbrev pub Only-new : Source → List (List ℕ) → Type 0
@@ -100,13 +101,6 @@ module _ (y : ℕ) where
   records-none [] = refl
   records-none (p ∷ D) = refl
 
-  records-append : (D E : List Position) (ls ms : List (List ℕ)) → length D ≡ length ls → records-on y (D ++ E) (ls ++ ms) ≡ records-on y D ls + records-on y E ms
-  unfolding records-on
-  records-append [] E [] ms e = omega arith
-  records-append [] E (l ∷ ls) ms e = absurd (omega arith)
-  records-append (p ∷ D) E [] ms e = absurd (omega arith)
-  records-append (p ∷ D) E (l ∷ ls) ms e = let r = records-append D E ls ms (omega arith) in omega arith
-
   records-split : (n : ℕ) (D : List Position) (ls : List (List ℕ)) → records-on y (take n D) (take n ls) + records-on y (drop n D) (drop n ls) ≡ records-on y D ls
   unfolding records-on
   records-split zero D ls = omega arith
@@ -119,7 +113,7 @@ module _ (y : ℕ) where
   unfolding records-on
   records-most [] ls = omega arith
   records-most (p ∷ D) [] = omega arith
-  records-most (p ∷ D) (l ∷ ls) = one (eqb (p .tape) y) (records-most D ls) (records-few (length l))
+  records-most (p ∷ D) (l ∷ ls) = one (eqb (p .tape) y) (records-most D ls) (records-few (length l) .1)
     where
       one : (b : Bool) → records-on y D ls ≤ 3 * length D → records-of (length l) ≤ 3 → pick b (records-of (length l)) 0 + records-on y D ls ≤ 3 * suc (length D)
       one true r q = omega arith
@@ -139,8 +133,8 @@ module _ (y : ℕ) where
       let p : length P ≡ length new = positions-count y k new in
       let a = ap (λ z. records-on y z (apply c ls new)) (apply-new c new D P h p) ∙ ap (records-on y (take from D ++ (P ++ drop (from + c .gone) D))) (apply-new c new ls new h refl) in
       let t : length (take from D) ≡ length (take from ls) = simp length-take (omega arith) in
-      let b = records-append (take from D) (P ++ drop (from + c .gone) D) (take from ls) (new ++ drop (from + c .gone) ls) t in
-      let b₁ = records-append P (drop (from + c .gone) D) new (drop (from + c .gone) ls) p in
+      let b = records-on-append y (take from D) (P ++ drop (from + c .gone) D) (take from ls) (new ++ drop (from + c .gone) ls) t in
+      let b₁ = records-on-append y P (drop (from + c .gone) D) new (drop (from + c .gone) ls) p in
       let n = records-new k new in
       let s = records-split from D ls in
       let s₁ = records-split (c .gone) (drop from D) (drop from ls) in
@@ -161,7 +155,7 @@ waiting-after x y c k D new d h =
 -- ROOM
 pub lines-most : (ls : List (List ℕ)) → lines-records ls ≤ 3 * length ls
 lines-most [] = omega arith
-lines-most (l ∷ ls) = let r = lines-most ls in let q = records-few (length l) in omega arith
+lines-most (l ∷ ls) = let r = lines-most ls in let q = records-few (length l) .1 in omega arith
 
 pub rooms-here : (R : ℕ) → 1024 ≤ R → Rooms R (threshold R)
 rooms-here R h = record { enough = h; below = omega arith; above = omega arith }
