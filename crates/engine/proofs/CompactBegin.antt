@@ -14,7 +14,7 @@ use Rattle.plain.specs.Promise.{all-longer}
 use Rattle.plain.specs.Run.{next}
 use Rattle.journal.specs.Log.{Rec, head, commit, set-up, no-splice, head-of, begin-records, next-generation}
 use Rattle.journal.specs.Small.{News, updated, no-state, set-up-of}
-use Rattle.journal.specs.Pages.{page-of, record-of}
+use Rattle.records.specs.Pages.{page-of, record-of}
 use Rattle.journal.proofs.Machine.{going, Goes, after-did}
 use Rattle.journal.proofs.Contents.{layout-new-is}
 use Rattle.journal.proofs.Lifecycle as lifecycle

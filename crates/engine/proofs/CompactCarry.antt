@@ -14,7 +14,7 @@ use Rattle.plain.specs.Promise.{all-longer}
 use Rattle.plain.specs.Run.{page, read, fasten}
 use Rattle.journal.specs.Log.{Position, position, hole, next-generation, Sides}
 use Rattle.journal.specs.Small.{updated, no-state}
-use Rattle.journal.specs.Pages.{record-of}
+use Rattle.records.specs.Pages.{record-of}
 use Rattle.journal.specs.Machine.{did}
 use Rattle.journal.proofs.Machine.{going, Goes, after-did}
 use Rattle.journal.proofs.Contents.{layout-new-is}

@@ -14,7 +14,7 @@ use Rattle.plain.specs.Pattern.{pick}
 use Rattle.plain.specs.Device.{Device, tape-of, stopped}
 use Rattle.journal.specs.Log.{Position, hole, next-generation}
 use Rattle.journal.specs.Small.{updated, no-state}
-use Rattle.journal.specs.Pages.{record-of}
+use Rattle.records.specs.Pages.{record-of}
 use Rattle.journal.proofs.Alike.{alike-length}
 use Rattle.journal.proofs.Contents.{layout-new-is}
 use Rattle.journal.proofs.Lifecycle as lifecycle

@@ -12,7 +12,7 @@ use Rattle.plain.specs.Device.{Device, Page, tape-of, stopped, longer, read-rec
 use Rattle.plain.specs.Promise.{all-longer}
 use Rattle.plain.specs.Run.{page}
 use Rattle.journal.specs.Log.{position, copy, Piece, piece-in, copies, head-of}
-use Rattle.journal.specs.Pages.{page-of, record-of}
+use Rattle.records.specs.Pages.{page-of, record-of}
 use Rattle.journal.proofs.Machine.{going, Goes, after-did}
 use Rattle.commands.specs.Kept.{Kept, fit-line}
 use Rattle.engine.specs.State.{House, carry-read, carry-put, at-phase, with-tapes, with-other, with-cursor, with-store, with-dir, with-carrying, carrying-of, passive}

@@ -15,7 +15,7 @@ use Rattle.plain.specs.Promise.{all-longer}
 use Rattle.plain.specs.Run.{has-room}
 use Rattle.journal.specs.Log.{Position, Sides, ahead, back, head-of, next-generation, In-cycle, cycle-1, cycle-2, cycle-3}
 use Rattle.journal.specs.Small.{updated, no-state}
-use Rattle.journal.specs.Pages.{record-of}
+use Rattle.records.specs.Pages.{record-of}
 use Rattle.journal.proofs.Contents.{layout-old-is}
 use Rattle.journal.proofs.Lifecycle as lifecycle
 use Rattle.commands.specs.Kept.{Kept}

@@ -18,3 +18,10 @@ pub mod Splices
 pub mod PutCommit
 pub mod PutBoth
 pub mod PutLeads
+pub mod WakeFacts
+pub mod WakeReplay
+pub mod WakeFresh
+pub mod Wake
+pub mod Fetching
+pub mod Walking
+pub mod Joining

@@ -13,7 +13,7 @@ use Rattle.plain.specs.Pattern.{pick, every, all-bytes}
 use Rattle.plain.specs.House.{File}
 use Rattle.plain.proofs.Basics.{every-append}
 use Rattle.journal.specs.Log.{copy, no-piece, pieces-of, copies, copy-records}
-use Rattle.journal.specs.Pages.{page-of, record-of}
+use Rattle.records.specs.Pages.{page-of, record-of}
 use Rattle.commands.specs.Kept.{Kept, directory, fit-line, fit-lines, fit-file, fit-name, file-lines, Sound}
 use Rattle.engine.specs.Fits.{Word, Piece-fits, Record-fits}
 use Rattle.engine.specs.Packing.{records-of, piece-of, pieces-from, packed, packs}

@@ -11,7 +11,7 @@ use Rattle.plain.specs.Promise.{all-longer}
 use Rattle.journal.specs.Log.{Position, apply, positions}
 use Rattle.journal.specs.Room.{Carrying}
 use Rattle.journal.specs.Small.{updated, no-state}
-use Rattle.journal.specs.Pages.{record-of}
+use Rattle.records.specs.Pages.{record-of}
 use Rattle.journal.proofs.Alike.{alike-length}
 use Rattle.journal.proofs.Lifecycle as lifecycle
 use Rattle.journal.proofs.Machine.{after-did}

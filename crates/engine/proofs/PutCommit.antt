@@ -14,7 +14,7 @@ use Rattle.plain.specs.Promise.{all-longer}
 use Rattle.journal.specs.Log.{Position, state, apply, positions}
 use Rattle.journal.specs.Small.{updated}
 use Rattle.journal.specs.Machine.{did}
-use Rattle.journal.specs.Pages.{page-of}
+use Rattle.records.specs.Pages.{page-of}
 use Rattle.journal.proofs.Alike.{alike-length, length-apply}
 use Rattle.journal.proofs.Machine.{after-did}
 use Rattle.commands.specs.Kept.{Kept, directory}

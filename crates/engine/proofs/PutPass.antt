@@ -15,7 +15,7 @@ use Rattle.plain.specs.Promise.{all-longer}
 use Rattle.journal.specs.Log.{Position, position, Rec, line, commit, state, pieces-of, parts, block, positions, command-records}
 use Rattle.journal.specs.Small.{News}
 use Rattle.journal.specs.Machine.{did}
-use Rattle.journal.specs.Pages.{page-of}
+use Rattle.records.specs.Pages.{page-of}
 use Rattle.journal.proofs.Machine.{going, after-act, after-did}
 use Rattle.commands.specs.Kept.{Kept, kept-weight}
 use Rattle.commands.specs.Held.{Held}

@@ -13,7 +13,7 @@ use Rattle.plain.specs.Pattern.{every}
 use Rattle.plain.proofs.Basics.{every-append}
 use Rattle.journal.specs.Log.{set-up, settled}
 use Rattle.journal.specs.Small.{Entry, Small, small, no-state, News, news, nothing-else, pushed, updated, pushes, slots, set-up-of}
-use Rattle.journal.specs.Pages.{page-of, record-of}
+use Rattle.records.specs.Pages.{page-of, record-of}
 use Rattle.engine.specs.Fits.{Word, words, entry-fits, Small-fits, News-fits, Record-fits}
 use Rattle.engine.proofs.Facts.{Codec}
 

@@ -14,7 +14,7 @@ use Rattle.plain.specs.Promise.{May, first-plain}
 use Rattle.plain.specs.Run.{on, page}
 use Rattle.journal.specs.Log.{Position, Rec, state, neither, only, choose, chosen, head-of, generation, Sides, ahead, back, tapes}
 use Rattle.journal.specs.Small.{News, updated, no-state}
-use Rattle.journal.specs.Pages.{record-of}
+use Rattle.records.specs.Pages.{record-of}
 use Rattle.journal.proofs.Running.{Asleep}
 use Rattle.journal.proofs.Machine.{Where, going, Goes, is-going, after-did, Awoke}
 use Rattle.journal.proofs.Contents.{layout-old-is}

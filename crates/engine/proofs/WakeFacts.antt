@@ -11,7 +11,7 @@ use Rattle.plain.specs.Device.{Device, Tape, tape, left, stopped, read-record}
 use Rattle.plain.specs.Promise.{May}
 use Rattle.journal.specs.Log.{Position, Rec, broken, State, state, head-of, generation, Alike, none, more, Sides, ahead, back, Packed, Tapes, tapes, replay}
 use Rattle.journal.specs.Small.{Small, News, updated, no-state}
-use Rattle.journal.specs.Pages.{record-of}
+use Rattle.records.specs.Pages.{record-of}
 use Rattle.journal.proofs.Running.{Asleep}
 use Rattle.journal.proofs.Stops.{left-fast}
 use Rattle.journal.proofs.Contents.{reads}

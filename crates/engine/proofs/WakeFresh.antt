@@ -12,7 +12,7 @@ use Rattle.plain.specs.Device.{Device, Page, stopped, longer, fastened, anew}
 use Rattle.plain.specs.Promise.{May}
 use Rattle.journal.specs.Log.{head, state, neither, only, choose, generation, next-generation, ahead, tapes}
 use Rattle.journal.specs.Small.{updated, no-state}
-use Rattle.journal.specs.Pages.{page-of, record-of}
+use Rattle.records.specs.Pages.{page-of, record-of}
 use Rattle.journal.proofs.Running.{Asleep}
 use Rattle.journal.proofs.Machine.{Where, Goes, is-over, after-did, Awoke}
 use Rattle.journal.proofs.Contents.{Layout, wake-layout, layout-begin-old, layout-swap, layout-put-old}

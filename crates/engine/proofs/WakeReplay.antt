@@ -14,7 +14,7 @@ use Rattle.plain.specs.Promise.{May}
 use Rattle.plain.specs.Run.{page}
 use Rattle.journal.specs.Log.{Position, Rec, head, line, copy, commit, broken, State, state, intact, Intact, after, replay, replay-from, tapes}
 use Rattle.journal.specs.Small.{Small, News, updated, no-state}
-use Rattle.journal.specs.Pages.{record-of}
+use Rattle.records.specs.Pages.{record-of}
 use Rattle.journal.proofs.Running.{Asleep}
 use Rattle.journal.proofs.Machine.{Where, going, Goes, is-over, after-did, Awoke}
 use Rattle.journal.proofs.Contents.{reads}
