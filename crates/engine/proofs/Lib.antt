@@ -25,3 +25,6 @@ pub mod WakeFresh
 pub mod Wake
 pub mod Prepare
 pub mod Plans
+pub mod Fetching
+pub mod Walking
+pub mod Joining
