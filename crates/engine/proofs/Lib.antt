@@ -28,3 +28,5 @@ pub mod Plans
 pub mod Fetching
 pub mod Walking
 pub mod Joining
+pub mod Given
+pub mod Kepts
