@@ -30,3 +30,4 @@ pub mod Walking
 pub mod Joining
 pub mod Given
 pub mod Kepts
+pub mod Weighing

@@ -10,7 +10,7 @@ use lib.ListN.{length, take, drop, length-append}
 use Rattle.std.proofs.shelf.Lists.{take-append-drop, nil-from-length}
 use lib.Seq.{take-length}
 use Rattle.plain.proofs.Basics.{added-append}
-use Rattle.std.proofs.shelf.Tests.{and-parts, leb-true, le-ltb, ltb-true, ltb-false, eqb-true, true≢false}
+use Rattle.std.proofs.shelf.Tests.{and-parts, leb-true, le-ltb, ltb-true, ltb-false, eqb-true, true≢false, false≢true}
 use Rattle.plain.specs.Pattern.{pick, or, none-of}
 use Rattle.plain.specs.Command.{Deed, append, insert, change, delete, join, move, copy, mark, print, number, where-is, swap, go-to, undo, redo, save, edit, load, files, bad, Simple}
 use Rattle.plain.specs.House.{File, smaller, short-all}
@@ -53,6 +53,13 @@ shown-by show-numbered n = n
 shown-by measure n = 0
 shown-by glue n = 0
 
+abbrev pub shows-lines : Walk → Bool
+shows-lines skip = false
+shows-lines show = true
+shows-lines show-numbered = true
+shows-lines measure = false
+shows-lines glue = false
+
 abbrev pub limit : Checked Bounds → Deed → Plan → ℕ
 limit r d p = pick (not (goes-through d)) (256 + 256 * (span-of r + length (lines-given d) + shown-by (p .walk) (p .upto - p .after))) unlimited
 
@@ -69,6 +76,9 @@ pub record Job-plan (k : Kept) (r : Checked Bounds) (d : Deed) (p : Plan) : Type
   pub room : (64 * (lines-records (directory k) + lines-records (new-lines-of k p (lines-given d))) ≤ kept-weight (kept-after k p d)) ⊎ (new-lines-of k p (lines-given d) ≡ [])
   pub grant : cost p (new-lines-of k p (lines-given d)) ≤ limit r d p
   pub went : walks (p .walk) ≡ false → went-at-once p (smalls-of k) ≡ lines-size (walked k p)
+  pub light : shows-lines (p .walk) ≡ true → kept-weight (kept-after k p d) ≡ kept-weight k
+  pub rows : (p .update ≡ same-as-before) ⊎ ((fs gs : List File) → turn.more-rows (p .rows) fs ≡ turn.more-rows (p .rows) gs)
+  pub still : p .update ≡ same-as-before → (p .walk ≡ skip) × (kept-after k p d ≡ k)
 
 abbrev pub All-jobs : Kept → Checked Bounds → Deed → Checked Plan → Type 0
 All-jobs k r d (good p) = Job-plan k r d p
@@ -137,11 +147,11 @@ module _ (k : Kept) (few : length (directory k) ≤ 524288) where
 
   -- lines put on come in place of lines of the text
   text-job : (r : Checked Bounds) (d : Deed) (w : Walk) (a b came at : ℕ) → a ≤ b → b ≤ length (k .text) → came ≤ 65536 → at ≤ length (k .text) + came + 1 →
-      length (turn.put-lines w (take (b - a) (drop a (k .text))) (lines-given d)) ≡ came → (walks w ≡ false → a ≡ b) →
+      length (turn.put-lines w (take (b - a) (drop a (k .text))) (lines-given d)) ≡ came → (walks w ≡ false → a ≡ b) → shows-lines w ≡ false →
       cost (text-plan (sizes-of k) w a b new-entries came at plan.no-row) (turn.put-lines w (take (b - a) (drop a (k .text))) (lines-given d)) ≤ limit r d (text-plan (sizes-of k) w a b new-entries came at plan.no-row) →
       Job-plan k r d (text-plan (sizes-of k) w a b new-entries came at plan.no-row)
-  unfolding updated-by
-  text-job r d w a b came at ab bn c16 cur long still g = record {
+  unfolding updated-by turn.more-rows
+  text-job r d w a b came at ab bn c16 cur long still hidden g = record {
     fits = record {
       after = omega (arith, text-few); upto = omega (arith, text-few); update = tt;
       splice = record { from = omega (arith, text-few); gone = omega (arith, text-few); source = tt };
@@ -151,7 +161,10 @@ module _ (k : Kept) (few : length (directory k) ≤ 524288) where
     came = refl;
     room = inl (text-weighs k a b came at (turn.put-lines w (take (b - a) (drop a (k .text))) (lines-given d)) ab);
     grant = g;
-    went = λ e. rw (e, ne-lt (still e)) (sym (ap (λ n. lines-size (take n (drop a (k .text)))) (let q : b - a ≡ 0 = omega (arith, still e) in q))) }
+    went = λ e. rw (e, ne-lt (still e)) (sym (ap (λ n. lines-size (take n (drop a (k .text)))) (let q : b - a ≡ 0 = omega (arith, still e) in q)));
+    light = λ e. absurd (true≢false (sym e ∙ hidden));
+    rows = inr (λ fs gs. refl);
+    still = λ e. absurd (let z : _≡_ {A = ℕ} 0 1 = cc in omega arith) }
     where
       ne-lt : a ≡ b → ltb a b ≡ false
       ne-lt e = le-ltb a b (omega arith)
@@ -159,7 +172,7 @@ module _ (k : Kept) (few : length (directory k) ≤ 524288) where
   -- lines of the text go
   gone-job : (r : Checked Bounds) (d : Deed) (a b at : ℕ) → a ≤ b → b ≤ length (k .text) → at ≤ length (k .text) + 1 → lines-given d ≡ [] →
       cost (text-plan (sizes-of k) measure a b no-entries 0 at plan.no-row) [] ≤ limit r d (text-plan (sizes-of k) measure a b no-entries 0 at plan.no-row) → Job-plan k r d (text-plan (sizes-of k) measure a b no-entries 0 at plan.no-row)
-  unfolding updated-by turn.put-lines
+  unfolding updated-by turn.put-lines turn.more-rows
   gone-job r d a b at ab bn cur none g = record {
     fits = record {
       after = omega (arith, text-few); upto = omega (arith, text-few); update = tt;
@@ -170,11 +183,15 @@ module _ (k : Kept) (few : length (directory k) ≤ 524288) where
     came = refl;
     room = inr none;
     grant = subst (λ ls. cost (text-plan (sizes-of k) measure a b no-entries 0 at plan.no-row) ls ≤ limit r d (text-plan (sizes-of k) measure a b no-entries 0 at plan.no-row)) (sym none) g;
-    went = λ e. absurd (true≢false e) }
+    went = λ e. absurd (true≢false e);
+    light = λ e. absurd (false≢true e);
+    rows = inr (λ fs gs. refl);
+    still = λ e. absurd (let z : _≡_ {A = ℕ} 0 1 = cc in omega arith) }
 
   -- lines are shown
   show-job : (r : Checked Bounds) (d : Deed) (w : Walk) (a b : ℕ) → walks w ≡ true → turn.put-lines w (take (b - a) (drop a (k .text))) (lines-given d) ≡ [] → a ≤ b → b ≤ length (k .text) →
       cost (show-plan (sizes-of k) w a b) [] ≤ limit r d (show-plan (sizes-of k) w a b) → Job-plan k r d (show-plan (sizes-of k) w a b)
+  unfolding updated-by turn.more-rows
   show-job r d w a b walking none ab bn g = record {
     fits = record {
       after = omega (arith, text-few); upto = omega (arith, text-few); update = tt;
@@ -185,11 +202,14 @@ module _ (k : Kept) (few : length (directory k) ≤ 524288) where
     came = refl;
     room = inr none;
     grant = subst (λ ls. cost (show-plan (sizes-of k) w a b) ls ≤ limit r d (show-plan (sizes-of k) w a b)) (sym none) g;
-    went = λ e. absurd (true≢false (sym walking ∙ e)) }
+    went = λ e. absurd (true≢false (sym walking ∙ e));
+    light = λ e. refl;
+    rows = inr (λ fs gs. refl);
+    still = λ e. absurd (let z : _≡_ {A = ℕ} 0 1 = cc in omega arith) }
 
   -- something is said
   say-job : (r : Checked Bounds) (d : Deed) (rows : Rows) → Rows-fit rows → k .at ≤ length (k .text) → lines-given d ≡ [] → cost (say-plan (sizes-of k) rows) [] ≤ limit r d (say-plan (sizes-of k) rows) → Job-plan k r d (say-plan (sizes-of k) rows)
-  unfolding turn.put-lines
+  unfolding turn.put-lines updated-by
   say-job r d rows rf cur none g = record {
     fits = record {
       after = omega arith; upto = omega arith; update = tt;
@@ -200,12 +220,15 @@ module _ (k : Kept) (few : length (directory k) ≤ 524288) where
     came = refl;
     room = inr none;
     grant = subst (λ ls. cost (say-plan (sizes-of k) rows) ls ≤ limit r d (say-plan (sizes-of k) rows)) (sym none) g;
-    went = λ e. refl }
+    went = λ e. refl;
+    light = λ e. refl;
+    rows = inl refl;
+    still = λ e. (refl, refl) }
 
   -- a file gets copies of lines of the text
   save-job : (r : Checked Bounds) (n : List ℕ) (a b : ℕ) → k .at ≤ length (k .text) → a ≤ b → b ≤ length (k .text) → slot-in k n .place ≤ 64 → (There n (k .files) (slot-in k n) 0 0 ⊎ Missing n (k .files) (slot-in k n) 0 0) →
       Job-plan k r (save n) (file-plan (sizes-of k) (slot-in k n) a b)
-  unfolding turn.put-lines lines-given name-given goes-through
+  unfolding turn.put-lines turn.more-rows lines-given name-given goes-through
   save-job r n a b cur ab bn place x =
       let inside = slot-inside (k .files) n (slot-in k n) x in
       record {
@@ -218,12 +241,15 @@ module _ (k : Kept) (few : length (directory k) ≤ 524288) where
         came = sym (ap lines-size (again-text k a b));
         room = inr refl;
         grant = omega (arith, text-few);
-        went = λ e. absurd (true≢false e) }
+        went = λ e. absurd (true≢false e);
+        light = λ e. absurd (false≢true e);
+        rows = inr (λ fs gs. refl);
+        still = λ e. absurd (let z : _≡_ {A = ℕ} 0 1 = cc in omega arith) }
 
   -- the text becomes copies of a file's lines
   edit-job : (r : Checked Bounds) (n : List ℕ) → slot-in k n .found ≡ true → (There n (k .files) (slot-in k n) 0 0 ⊎ Missing n (k .files) (slot-in k n) 0 0) →
       Job-plan k r (edit n) (plan.edit-plan (sizes-of k) (slot-in k n))
-  unfolding turn.put-lines lines-given name-given goes-through
+  unfolding turn.put-lines turn.more-rows lines-given name-given goes-through
   edit-job r n e (inr x) = absurd (true≢false (sym e ∙ ap (λ z. z .found) (x .slot)))
   edit-job r n e (inl x) =
       let s = slot-in k n in
@@ -243,7 +269,10 @@ module _ (k : Kept) (few : length (directory k) ≤ 524288) where
         came = size ∙ sym (ap lines-size came);
         room = inr refl;
         grant = omega (arith, text-few);
-        went = λ z. whole (ltb 0 (length (k .text))) refl }
+        went = λ z. whole (ltb 0 (length (k .text))) refl;
+        light = λ z. absurd (false≢true z);
+        rows = inr (λ fs gs. refl);
+        still = λ z. absurd (let y : _≡_ {A = ℕ} 0 1 = cc in omega arith) }
     where
       all-of : lines-size (take (length (k .text) - 0) (k .text)) ≡ lines-size (k .text)
       all-of = ap (λ m. lines-size (take m (k .text))) (let q : length (k .text) - 0 ≡ length (k .text) = omega arith in q) ∙ ap lines-size (take-length (k .text))
@@ -266,17 +295,17 @@ module _ (k : Kept) (sound : Sound k) (few : length (directory k) ≤ 524288) wh
   unfolding decide-deed lines-given name-given turn.put-lines goes-through
   deed-jobs (append ls) r o g =
       then-jobs k (append ls) r _ o (λ b h. check-jobs k (good b) (append ls) (short-all ls) 7 _ (λ s. check-jobs k (good b) (append ls) (leb (b .last) (length (k .text))) 4 _ (λ e. (let l = leb-true _ _ e in let m = lines-most ls in
-        text-job k few (good b) (append ls) skip (b .last) (b .last) (length ls) (b .last + length ls) (omega arith) l (omega arith) (omega arith) refl (λ q. refl) (omega arith)))))
+        text-job k few (good b) (append ls) skip (b .last) (b .last) (length ls) (b .last + length ls) (omega arith) l (omega arith) (omega arith) refl (λ q. refl) refl (omega arith)))))
   deed-jobs (insert ls) r o g =
       then-jobs k (insert ls) r _ o (λ b h. check-jobs k (good b) (insert ls) (short-all ls) 7 _ (λ s. check-jobs k (good b) (insert ls) (leb (b .last) (length (k .text))) 4 _ (λ e. (let l = leb-true _ _ e in let m = lines-most ls in
-        text-job k few (good b) (insert ls) skip (b .last - 1) (b .last - 1) (length ls) _ (omega arith) (omega arith) (omega arith) (at-inserted (eqb (length ls) 0) (b .last) (length ls) (length (k .text)) l) refl (λ q. refl) (omega arith)))))
+        text-job k few (good b) (insert ls) skip (b .last - 1) (b .last - 1) (length ls) _ (omega arith) (omega arith) (omega arith) (at-inserted (eqb (length ls) 0) (b .last) (length ls) (length (k .text)) l) refl (λ q. refl) refl (omega arith)))))
     where
       at-inserted : (t : Bool) (b n count : ℕ) → b ≤ count → pick t b (b - 1 + n) ≤ count + n + 1
       at-inserted true b n count h = omega arith
       at-inserted false b n count h = omega arith
   deed-jobs (change ls) r o g =
       then-jobs k (change ls) r _ o (λ b h. check-jobs k (good b) (change ls) (short-all ls) 7 _ (λ s. check-jobs k (good b) (change ls) (there (length (k .text)) b) 4 _ (λ e. (let z = spans _ b e in let z₁ = z .one in let z₂ = z .order in let z₃ = z .there in let m = lines-most ls in
-        text-job k few (good b) (change ls) measure (b .first - 1) (b .last) (length ls) _ (omega arith) (z .there) (omega arith) (at-changed (eqb (length ls) 0) b (length ls) (length (k .text)) z₂ z₃) refl (λ q. absurd (true≢false q)) (omega arith)))))
+        text-job k few (good b) (change ls) measure (b .first - 1) (b .last) (length ls) _ (omega arith) (z .there) (omega arith) (at-changed (eqb (length ls) 0) b (length ls) (length (k .text)) z₂ z₃) refl (λ q. absurd (true≢false q)) refl (omega arith)))))
     where
       small : (x y : ℕ) → smaller x y ≤ x
       small x y = go (ltb x y) refl
@@ -300,7 +329,7 @@ module _ (k : Kept) (sound : Sound k) (few : length (directory k) ≤ 524288) wh
   deed-jobs join r o g =
       then-jobs k join r _ o (λ b h. check-jobs k (good b) join (there (length (k .text)) b) 4 _ (λ e. (let z = spans _ b e in let z₁ = z .one in let z₂ = z .order in let z₃ = z .there in
         let m = lines-most (turn.glued-lines (take (b .last - (b .first - 1)) (drop (b .first - 1) (k .text))) ∷ []) in
-        text-job k few (good b) join glue (b .first - 1) (b .last) 1 (b .first) (omega arith) (z .there) (omega arith) (omega arith) refl (λ q. absurd (true≢false q)) (omega arith))))
+        text-job k few (good b) join glue (b .first - 1) (b .last) 1 (b .first) (omega arith) (z .there) (omega arith) (omega arith) refl (λ q. absurd (true≢false q)) refl (omega arith))))
   deed-jobs (move a) r o g = tt
   deed-jobs (copy a) r o g = tt
   deed-jobs (mark c) r o g = tt
