@@ -84,7 +84,7 @@ ahead-first {text} {l} {ls} {i} h =
     (record { there = b; is = cc }, record { behind = h .behind; split = cc; count = let q = h .count in omega arith })
 
 -- WHERE IT LIES
-text-starts : (k : Kept) → text-at (smalls-of k) ≡ offset (k .files)
+pub text-starts : (k : Kept) → text-at (smalls-of k) ≡ offset (k .files)
 text-starts k = added-each (λ e. e .lines) plan.entry-of (k .files)
 
 text-line : (k : Kept) (i : ℕ) → line-of (directory k) (offset (k .files) + i) ≡ line-of (k .text) i

@@ -31,3 +31,4 @@ pub mod Joining
 pub mod Given
 pub mod Kepts
 pub mod Weighing
+pub mod Obeys

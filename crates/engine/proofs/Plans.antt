@@ -79,6 +79,7 @@ pub record Job-plan (k : Kept) (r : Checked Bounds) (d : Deed) (p : Plan) : Type
   pub light : shows-lines (p .walk) ≡ true → kept-weight (kept-after k p d) ≡ kept-weight k
   pub rows : (p .update ≡ same-as-before) ⊎ ((fs gs : List File) → turn.more-rows (p .rows) fs ≡ turn.more-rows (p .rows) gs)
   pub still : p .update ≡ same-as-before → (p .walk ≡ skip) × (kept-after k p d ≡ k)
+  pub short : short-all (lines-given d) ≡ true
 
 abbrev pub All-jobs : Kept → Checked Bounds → Deed → Checked Plan → Type 0
 All-jobs k r d (good p) = Job-plan k r d p
@@ -147,11 +148,11 @@ module _ (k : Kept) (few : length (directory k) ≤ 524288) where
 
   -- lines put on come in place of lines of the text
   text-job : (r : Checked Bounds) (d : Deed) (w : Walk) (a b came at : ℕ) → a ≤ b → b ≤ length (k .text) → came ≤ 65536 → at ≤ length (k .text) + came + 1 →
-      length (turn.put-lines w (take (b - a) (drop a (k .text))) (lines-given d)) ≡ came → (walks w ≡ false → a ≡ b) → shows-lines w ≡ false →
+      length (turn.put-lines w (take (b - a) (drop a (k .text))) (lines-given d)) ≡ came → (walks w ≡ false → a ≡ b) → shows-lines w ≡ false → short-all (lines-given d) ≡ true →
       cost (text-plan (sizes-of k) w a b new-entries came at plan.no-row) (turn.put-lines w (take (b - a) (drop a (k .text))) (lines-given d)) ≤ limit r d (text-plan (sizes-of k) w a b new-entries came at plan.no-row) →
       Job-plan k r d (text-plan (sizes-of k) w a b new-entries came at plan.no-row)
   unfolding updated-by turn.more-rows
-  text-job r d w a b came at ab bn c16 cur long still hidden g = record {
+  text-job r d w a b came at ab bn c16 cur long still hidden short g = record {
     fits = record {
       after = omega (arith, text-few); upto = omega (arith, text-few); update = tt;
       splice = record { from = omega (arith, text-few); gone = omega (arith, text-few); source = tt };
@@ -164,7 +165,8 @@ module _ (k : Kept) (few : length (directory k) ≤ 524288) where
     went = λ e. rw (e, ne-lt (still e)) (sym (ap (λ n. lines-size (take n (drop a (k .text)))) (let q : b - a ≡ 0 = omega (arith, still e) in q)));
     light = λ e. absurd (true≢false (sym e ∙ hidden));
     rows = inr (λ fs gs. refl);
-    still = λ e. absurd (let z : _≡_ {A = ℕ} 0 1 = cc in omega arith) }
+    still = λ e. absurd (let z : _≡_ {A = ℕ} 0 1 = cc in omega arith);
+    short = short }
     where
       ne-lt : a ≡ b → ltb a b ≡ false
       ne-lt e = le-ltb a b (omega arith)
@@ -186,13 +188,14 @@ module _ (k : Kept) (few : length (directory k) ≤ 524288) where
     went = λ e. absurd (true≢false e);
     light = λ e. absurd (false≢true e);
     rows = inr (λ fs gs. refl);
-    still = λ e. absurd (let z : _≡_ {A = ℕ} 0 1 = cc in omega arith) }
+    still = λ e. absurd (let z : _≡_ {A = ℕ} 0 1 = cc in omega arith);
+    short = ap short-all none }
 
   -- lines are shown
-  show-job : (r : Checked Bounds) (d : Deed) (w : Walk) (a b : ℕ) → walks w ≡ true → turn.put-lines w (take (b - a) (drop a (k .text))) (lines-given d) ≡ [] → a ≤ b → b ≤ length (k .text) →
+  show-job : (r : Checked Bounds) (d : Deed) (w : Walk) (a b : ℕ) → walks w ≡ true → turn.put-lines w (take (b - a) (drop a (k .text))) (lines-given d) ≡ [] → short-all (lines-given d) ≡ true → a ≤ b → b ≤ length (k .text) →
       cost (show-plan (sizes-of k) w a b) [] ≤ limit r d (show-plan (sizes-of k) w a b) → Job-plan k r d (show-plan (sizes-of k) w a b)
   unfolding updated-by turn.more-rows
-  show-job r d w a b walking none ab bn g = record {
+  show-job r d w a b walking none short ab bn g = record {
     fits = record {
       after = omega (arith, text-few); upto = omega (arith, text-few); update = tt;
       splice = record { from = omega arith; gone = omega arith; source = tt };
@@ -205,7 +208,8 @@ module _ (k : Kept) (few : length (directory k) ≤ 524288) where
     went = λ e. absurd (true≢false (sym walking ∙ e));
     light = λ e. refl;
     rows = inr (λ fs gs. refl);
-    still = λ e. absurd (let z : _≡_ {A = ℕ} 0 1 = cc in omega arith) }
+    still = λ e. absurd (let z : _≡_ {A = ℕ} 0 1 = cc in omega arith);
+    short = short }
 
   -- something is said
   say-job : (r : Checked Bounds) (d : Deed) (rows : Rows) → Rows-fit rows → k .at ≤ length (k .text) → lines-given d ≡ [] → cost (say-plan (sizes-of k) rows) [] ≤ limit r d (say-plan (sizes-of k) rows) → Job-plan k r d (say-plan (sizes-of k) rows)
@@ -223,7 +227,8 @@ module _ (k : Kept) (few : length (directory k) ≤ 524288) where
     went = λ e. refl;
     light = λ e. refl;
     rows = inl refl;
-    still = λ e. (refl, refl) }
+    still = λ e. (refl, refl);
+    short = ap short-all none }
 
   -- a file gets copies of lines of the text
   save-job : (r : Checked Bounds) (n : List ℕ) (a b : ℕ) → k .at ≤ length (k .text) → a ≤ b → b ≤ length (k .text) → slot-in k n .place ≤ 64 → (There n (k .files) (slot-in k n) 0 0 ⊎ Missing n (k .files) (slot-in k n) 0 0) →
@@ -244,7 +249,8 @@ module _ (k : Kept) (few : length (directory k) ≤ 524288) where
         went = λ e. absurd (true≢false e);
         light = λ e. absurd (false≢true e);
         rows = inr (λ fs gs. refl);
-        still = λ e. absurd (let z : _≡_ {A = ℕ} 0 1 = cc in omega arith) }
+        still = λ e. absurd (let z : _≡_ {A = ℕ} 0 1 = cc in omega arith);
+        short = refl }
 
   -- the text becomes copies of a file's lines
   edit-job : (r : Checked Bounds) (n : List ℕ) → slot-in k n .found ≡ true → (There n (k .files) (slot-in k n) 0 0 ⊎ Missing n (k .files) (slot-in k n) 0 0) →
@@ -272,7 +278,8 @@ module _ (k : Kept) (few : length (directory k) ≤ 524288) where
         went = λ z. whole (ltb 0 (length (k .text))) refl;
         light = λ z. absurd (false≢true z);
         rows = inr (λ fs gs. refl);
-        still = λ z. absurd (let y : _≡_ {A = ℕ} 0 1 = cc in omega arith) }
+        still = λ z. absurd (let y : _≡_ {A = ℕ} 0 1 = cc in omega arith);
+        short = refl }
     where
       all-of : lines-size (take (length (k .text) - 0) (k .text)) ≡ lines-size (k .text)
       all-of = ap (λ m. lines-size (take m (k .text))) (let q : length (k .text) - 0 ≡ length (k .text) = omega arith in q) ∙ ap lines-size (take-length (k .text))
@@ -295,17 +302,17 @@ module _ (k : Kept) (sound : Sound k) (few : length (directory k) ≤ 524288) wh
   unfolding decide-deed lines-given name-given turn.put-lines goes-through
   deed-jobs (append ls) r o g =
       then-jobs k (append ls) r _ o (λ b h. check-jobs k (good b) (append ls) (short-all ls) 7 _ (λ s. check-jobs k (good b) (append ls) (leb (b .last) (length (k .text))) 4 _ (λ e. (let l = leb-true _ _ e in let m = lines-most ls in
-        text-job k few (good b) (append ls) skip (b .last) (b .last) (length ls) (b .last + length ls) (omega arith) l (omega arith) (omega arith) refl (λ q. refl) refl (omega arith)))))
+        text-job k few (good b) (append ls) skip (b .last) (b .last) (length ls) (b .last + length ls) (omega arith) l (omega arith) (omega arith) refl (λ q. refl) refl s (omega arith)))))
   deed-jobs (insert ls) r o g =
       then-jobs k (insert ls) r _ o (λ b h. check-jobs k (good b) (insert ls) (short-all ls) 7 _ (λ s. check-jobs k (good b) (insert ls) (leb (b .last) (length (k .text))) 4 _ (λ e. (let l = leb-true _ _ e in let m = lines-most ls in
-        text-job k few (good b) (insert ls) skip (b .last - 1) (b .last - 1) (length ls) _ (omega arith) (omega arith) (omega arith) (at-inserted (eqb (length ls) 0) (b .last) (length ls) (length (k .text)) l) refl (λ q. refl) refl (omega arith)))))
+        text-job k few (good b) (insert ls) skip (b .last - 1) (b .last - 1) (length ls) _ (omega arith) (omega arith) (omega arith) (at-inserted (eqb (length ls) 0) (b .last) (length ls) (length (k .text)) l) refl (λ q. refl) refl s (omega arith)))))
     where
       at-inserted : (t : Bool) (b n count : ℕ) → b ≤ count → pick t b (b - 1 + n) ≤ count + n + 1
       at-inserted true b n count h = omega arith
       at-inserted false b n count h = omega arith
   deed-jobs (change ls) r o g =
       then-jobs k (change ls) r _ o (λ b h. check-jobs k (good b) (change ls) (short-all ls) 7 _ (λ s. check-jobs k (good b) (change ls) (there (length (k .text)) b) 4 _ (λ e. (let z = spans _ b e in let z₁ = z .one in let z₂ = z .order in let z₃ = z .there in let m = lines-most ls in
-        text-job k few (good b) (change ls) measure (b .first - 1) (b .last) (length ls) _ (omega arith) (z .there) (omega arith) (at-changed (eqb (length ls) 0) b (length ls) (length (k .text)) z₂ z₃) refl (λ q. absurd (true≢false q)) refl (omega arith)))))
+        text-job k few (good b) (change ls) measure (b .first - 1) (b .last) (length ls) _ (omega arith) (z .there) (omega arith) (at-changed (eqb (length ls) 0) b (length ls) (length (k .text)) z₂ z₃) refl (λ q. absurd (true≢false q)) refl s (omega arith)))))
     where
       small : (x y : ℕ) → smaller x y ≤ x
       small x y = go (ltb x y) refl
@@ -329,23 +336,23 @@ module _ (k : Kept) (sound : Sound k) (few : length (directory k) ≤ 524288) wh
   deed-jobs join r o g =
       then-jobs k join r _ o (λ b h. check-jobs k (good b) join (there (length (k .text)) b) 4 _ (λ e. (let z = spans _ b e in let z₁ = z .one in let z₂ = z .order in let z₃ = z .there in
         let m = lines-most (turn.glued-lines (take (b .last - (b .first - 1)) (drop (b .first - 1) (k .text))) ∷ []) in
-        text-job k few (good b) join glue (b .first - 1) (b .last) 1 (b .first) (omega arith) (z .there) (omega arith) (omega arith) refl (λ q. absurd (true≢false q)) refl (omega arith))))
+        text-job k few (good b) join glue (b .first - 1) (b .last) 1 (b .first) (omega arith) (z .there) (omega arith) (omega arith) refl (λ q. absurd (true≢false q)) refl refl (omega arith))))
   deed-jobs (move a) r o g = tt
   deed-jobs (copy a) r o g = tt
   deed-jobs (mark c) r o g = tt
   deed-jobs print r o g =
       then-jobs k print r _ o (λ b h. check-jobs k (good b) print (there (length (k .text)) b) 4 _ (λ e. (let z = spans _ b e in let z₁ = z .one in let z₂ = z .order in
-        show-job k few (good b) print show (b .first - 1) (b .last) refl refl (omega arith) (z .there) (omega arith))))
+        show-job k few (good b) print show (b .first - 1) (b .last) refl refl refl (omega arith) (z .there) (omega arith))))
   deed-jobs number r o g =
       then-jobs k number r _ o (λ b h. check-jobs k (good b) number (there (length (k .text)) b) 4 _ (λ e. (let z = spans _ b e in let z₁ = z .one in let z₂ = z .order in
-        show-job k few (good b) number show-numbered (b .first - 1) (b .last) refl refl (omega arith) (z .there) (omega arith))))
+        show-job k few (good b) number show-numbered (b .first - 1) (b .last) refl refl refl (omega arith) (z .there) (omega arith))))
   deed-jobs where-is r o g =
       then-jobs k where-is r _ o (λ b h. check-jobs k (good b) where-is (leb (b .last) (length (k .text))) 4 _ (λ e. (let l = leb-true _ _ e in let t = text-few k few in
         say-job k few (good b) where-is (plan.a-number (b .last)) (omega arith) (sound .current) refl (omega arith))))
   deed-jobs (swap p q i) r o g = tt
   deed-jobs go-to r o g =
       then-jobs k go-to r _ o (λ b h. check-jobs k (good b) go-to (leb 1 (b .last) && leb (b .last) (length (k .text))) 4 _ (λ e. (let p = and-parts (leb 1 (b .last)) (leb (b .last) (length (k .text))) e in let l = leb-true _ _ (p .0) in
-        show-job k few (good b) go-to show (b .last - 1) (b .last) refl refl (omega arith) (leb-true _ _ (p .1)) (omega arith))))
+        show-job k few (good b) go-to show (b .last - 1) (b .last) refl refl refl (omega arith) (leb-true _ _ (p .1)) (omega arith))))
   deed-jobs undo r o g = tt
   deed-jobs redo r o g = tt
   deed-jobs (save n) r o g =
