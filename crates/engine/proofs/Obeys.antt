@@ -29,17 +29,17 @@ use Rattle.commands.proofs.Files.{There, Missing, looked}
 use Rattle.commands.proofs.Planned.{plans-stand}
 use Rattle.commands.proofs.Readings.{reads-well, reads-one}
 use Rattle.commands.proofs.Typed.{no-turn}
-use Rattle.engine.specs.State.{House, Job, idle}
+use Rattle.engine.specs.State.{House, Phase, Job, Walking, idle}
 use Rattle.engine.specs.Fits.{Fits}
 use Rattle.engine.specs.Machine as machine
 use Rattle.engine.specs.Packing.{lines-records}
-use Rattle.engine.specs.Machine.{Does, text-at, walks, quota-by, quota-of, need, prepare, start-job, do-plan, walk-on, weigh, finish, by-decision, decision, slot-for, refuses, answers}
+use Rattle.engine.specs.Machine.{Does, text-at, walks, went-at-once, quota-by, quota-of, need, prepare, start-job, do-plan, walk-on, weigh, finish, by-decision, decision, slot-for, refuses, answers}
 use Rattle.engine.proofs.Facts.{Codec, Rest, Idle}
 use Rattle.engine.proofs.Course.{Course, Leads, On-course, stops, chosen}
 use Rattle.engine.proofs.Courses.{course, turn-then, unlimited, grant-on}
 use Rattle.engine.proofs.Finish.{rest-as, rest-small, rest-off, finish-leads}
 use Rattle.engine.proofs.Fetching.{walk-at, walk-with, job-walks, safe-rest, walked-long, text-starts}
-use Rattle.engine.proofs.Walking.{shown-walk, show-leads, measure-leads, skip-leads}
+use Rattle.engine.proofs.Walking.{shown-walk, shown-walks, show-leads, measure-leads, skip-leads}
 use Rattle.engine.proofs.Joining.{join-leads, joined-at}
 use Rattle.engine.proofs.Kepts.{directory-few}
 use Rattle.engine.proofs.Plans.{Job-plan, job-plan, size-of, cost, limit, shown-by, shows-lines}
@@ -281,3 +281,128 @@ module _ (codec : Codec) (R n : ℕ) (most : R ≤ 1048576) (w : Plain) (k : Kep
           weigh-full codec R n most C k held light (c .deed) p A _ P y (a, b, j, v) z (sym (ap (λ m. m .reply) q)) (ap (λ m. m .next) q) o
       weighs (done f z q) g u y a b j v o =
           weigh-done codec R n most C k held light (c .deed) p A _ P y (a, b, j, v) z (sym (ap (λ m. m .reply) q)) (ap (λ m. m .next) q) (new-fits f (p .walk) refl) (new-few (p .walk)) u o
+
+      -- THE WALK, as it comes out
+      begin : {rows : List (List ℕ)} (j : ℕ) → rows ≡ C .shown → j ≤ C .grant → On-course codec R n C [] rows 0 j
+      begin j q g = record { rows = q; count = omega arith }
+
+      long : length (walked k p) ≡ p .upto - p .after
+      long = walked-long k p (A .below) (A .there)
+
+      enough : 3 * length (walked k p) + left-over ≤ C .grant
+      enough = let a = grant-enough in omega (arith, long)
+
+      -- rows of lines come first
+      rows-begin : (o : Outcome R k (c .deed) p (turn-then R w k t held light)) → shows-lines (p .walk) ≡ false → (v : Walk) → p .walk ≡ v → more-for o ≡ C .shown
+      unfolding walk-rows
+      rows-begin (too-long f q) h v m = sym (ap (λ z. z .shows) q)
+      rows-begin (full f g q) h v m = sym (ap (λ z. z .shows) q)
+      rows-begin (done f g q) h v m = by v m (subst (λ z. shows-lines z ≡ false) m h) ∙ sym (ap (λ z. z .shows) q)
+        where
+          by : (v : Walk) → p .walk ≡ v → shows-lines v ≡ false → more-rows (p .rows) (k .files) ≡ rows-of k p
+          by skip m h = ap (λ z. walk-rows z (suc (p .after)) (walked k p) ++ more-rows (p .rows) (k .files)) (sym m)
+          by show m h = absurd (true≢false h)
+          by show-numbered m h = absurd (true≢false h)
+          by measure m h = ap (λ z. walk-rows z (suc (p .after)) (walked k p) ++ more-rows (p .rows) (k .files)) (sym m)
+          by glue m h = ap (λ z. walk-rows z (suc (p .after)) (walked k p) ++ more-rows (p .rows) (k .files)) (sym m)
+
+      not-long : (v : Walk) → p .walk ≡ v → (v ≡ glue → ⊥) → turn.too-long (p .walk) (walked k p) ≡ false
+      unfolding turn.too-long
+      not-long skip m h = ap (λ z. turn.too-long z (walked k p)) m
+      not-long show m h = ap (λ z. turn.too-long z (walked k p)) m
+      not-long show-numbered m h = ap (λ z. turn.too-long z (walked k p)) m
+      not-long measure m h = ap (λ z. turn.too-long z (walked k p)) m
+      not-long glue m h = absurd (h refl)
+
+      given-only : (v : Walk) → p .walk ≡ v → (v ≡ glue → ⊥) → new-lines-of k p (lines-given (c .deed)) ≡ lines-given (c .deed)
+      unfolding turn.put-lines
+      given-only skip m h = ap (λ z. turn.put-lines z (walked k p) (lines-given (c .deed))) m
+      given-only show m h = ap (λ z. turn.put-lines z (walked k p) (lines-given (c .deed))) m
+      given-only show-numbered m h = ap (λ z. turn.put-lines z (walked k p) (lines-given (c .deed))) m
+      given-only measure m h = ap (λ z. turn.put-lines z (walked k p) (lines-given (c .deed))) m
+      given-only glue m h = absurd (h refl)
+
+      -- lines that are shown are neither joined nor kept anew
+      shown-short : (b : Bool) → p .walk ≡ shown-walk b → turn.too-long (p .walk) (walked k p) ≡ false
+      unfolding turn.too-long
+      shown-short true m = ap (λ z. turn.too-long z (walked k p)) m
+      shown-short false m = ap (λ z. turn.too-long z (walked k p)) m
+
+      shown-given : (b : Bool) → p .walk ≡ shown-walk b → new-lines-of k p (lines-given (c .deed)) ≡ lines-given (c .deed)
+      unfolding turn.put-lines
+      shown-given true m = ap (λ z. turn.put-lines z (walked k p) (lines-given (c .deed))) m
+      shown-given false m = ap (λ z. turn.put-lines z (walked k p) (lines-given (c .deed))) m
+
+      shown-lines : (b : Bool) → p .walk ≡ shown-walk b → shows-lines (p .walk) ≡ true
+      shown-lines true m = ap shows-lines m
+      shown-lines false m = ap shows-lines m
+
+      shown-room : (b : Bool) → p .walk ≡ shown-walk b → turn.no-room R k (kept-after k p (c .deed)) ≡ false
+      shown-room b m = let q = P .light (shown-lines b m) in and-left _ _ (le-ltb (kept-weight k) (kept-weight (kept-after k p (c .deed))) (omega (arith, q)))
+
+      showing : (b : Bool) → p .walk ≡ shown-walk b → (p .update ≡ same-as-before → ⊥) → (o : Outcome R k (c .deed) p (turn-then R w k t held light)) → Leads codec R n C (after-did d [] 0 (walk-on x₀))
+      showing b m u (too-long f q) = absurd (true≢false (sym f ∙ shown-short b m))
+      showing b m u (full f g q) = absurd (true≢false (sym g ∙ shown-room b m))
+      showing b m u (done f g q) =
+          let j = job-is (shown-given b m) in
+          let r : walk-rows (shown-walk b) (suc (p .after)) (walked k p) ++ more-rows (p .rows) (k .files) ≡ C .shown = ap (λ z. walk-rows z (suc (p .after)) (walked k p) ++ more-rows (p .rows) (k .files)) (sym m) ∙ sym (ap (λ z. z .shows) q) in
+          subst (λ y. Leads codec R n C (after-did d [] 0 (walk-on y))) (sym (job-walks c (slot-for x c .size) p x (ap walks m ∙ shown-walks b)))
+          (show-leads codec R n C held rest₀ fits₀ b (x .phase) [] 0 m (A .below) (A .there) (begin (3 * length (walked k p) + left-over) r enough)
+          (λ ph ss i z a y. weighs (done f g q) f u (walk-at ph (p .upto) 0 (lines-size (walked k p)) [] x₀) a z j refl y))
+
+      by-walk : (v : Walk) → p .walk ≡ v → (p .update ≡ same-as-before → ⊥) → (o : Outcome R k (c .deed) p (turn-then R w k t held light)) → Leads codec R n C (after-did d [] 0 (walk-on x₀))
+      unfolding turn.too-long turn.put-lines
+      by-walk skip m u o =
+          let j = job-is (given-only skip m (λ q. let z : _≡_ {A = ℕ} 0 1 = cc in omega arith)) in
+          let v : x₀ .walking .went ≡ lines-size (walked k p) = ap (λ z. went-at-once p z) s ∙ P .went (ap walks m) in
+          skip-leads codec R n C held rest₀ fits₀ [] 0 m
+          (weighs o (not-long skip m (λ q. let z : _≡_ {A = ℕ} 0 1 = cc in omega arith)) u x₀ rest₀ fits₀ j v (begin left-over (rows-begin o (ap shows-lines m) skip m) (let a = enough in omega arith)))
+      by-walk measure m u o =
+          let j = job-is (given-only measure m (λ q. let z : _≡_ {A = ℕ} 0 1 = cc in omega arith)) in
+          subst (λ y. Leads codec R n C (after-did d [] 0 (walk-on y))) (sym (job-walks c (slot-for x c .size) p x (ap walks m)))
+          (measure-leads codec R n C held rest₀ fits₀ (x .phase) [] 0 m (A .below) (A .there) (begin (3 * length (walked k p) + left-over) (rows-begin o (ap shows-lines m) measure m) enough)
+          (λ ph ss r f a q. weighs o (not-long measure m (λ z. let i : _≡_ {A = ℕ} 0 1 = cc in omega arith)) u (walk-at ph (p .upto) 0 (lines-size (walked k p)) [] x₀) a f j refl q))
+      by-walk show m u o = showing false m u o
+      by-walk show-numbered m u o = showing true m u o
+      by-walk glue m u o =
+          let started : x₀ ≡ walk-at (x .phase) (p .after) 0 0 [] x₀ = job-walks c (slot-for x c .size) p x (ap walks m) in
+          subst (λ y. Leads codec R n C (after-did d [] 0 (walk-on y))) (sym started)
+          (join-leads codec R n C held rest₀ fits₀ [] (x .phase) 0 m (A .below) (A .there) (begin (3 * length (walked k p) + left-over) (rows-begin o (ap shows-lines m) glue m) enough)
+          (λ l ph r f a q. weighs o (joined-short l) u (joined-at ph (p .upto) (lines-size (walked k p)) (turn.glued-lines (walked k p)) x₀) a f joined-job refl q)
+          (λ l ph v r f a q. long-refused o (joined-long l) ph v r f a q))
+        where
+          joined-short : length (turn.glued-lines (walked k p)) ≤ 1024 → turn.too-long (p .walk) (walked k p) ≡ false
+          joined-short l = ap (λ z. turn.too-long z (walked k p)) m ∙ le-ltb 1024 (length (turn.glued-lines (walked k p))) l
+          joined-long : 1024 < length (turn.glued-lines (walked k p)) → turn.too-long (p .walk) (walked k p) ≡ true
+          joined-long l = ap (λ z. turn.too-long z (walked k p)) m ∙ lt-ltb 1024 (length (turn.glued-lines (walked k p))) l
+          joined-job : record { plan = p; name = name-given (c .deed); size = slot-for x c .size; lines = turn.glued-lines (walked k p) ∷ [] } ≡ job-for k (c .deed) p
+          joined-job =
+              let z = ap (λ y. y .size) (slot-same k c x s) in
+              let l : turn.glued-lines (walked k p) ∷ [] ≡ new-lines-of k p (lines-given (c .deed)) = ap (λ y. turn.put-lines y (walked k p) (lines-given (c .deed))) (sym m) in
+              λ i. record { plan = p; name = name-given (c .deed); size = z i; lines = l i }
+          long-refused : (o : Outcome R k (c .deed) p (turn-then R w k t held light)) → turn.too-long (p .walk) (walked k p) ≡ true → (ph : Phase) (v : Walking) (r : ℕ) → Fits (walk-with ph v x₀) → Rest codec R d (walk-with ph v x₀) k →
+              On-course codec R n C [] (more-for o) r left-over → Leads codec R n C (after-did d [] r (refuses 7 (walk-with ph v x₀)))
+          long-refused (full f g q) h ph v r z a y = absurd (true≢false (sym h ∙ f))
+          long-refused (done f g q) h ph v r z a y = absurd (true≢false (sym h ∙ f))
+          long-refused (too-long f q) h ph v r z a y =
+              refuse-leads codec R n C 7 (walk-with ph v x₀) refl (sym (ap (λ i. i .reply) q)) (subst (λ i. Rest codec R d (walk-with ph v x₀) i) (sym (ap (λ i. i .next) q)) a) z y
+
+      -- WHAT IS ONLY SAID
+      only-said : p .update ≡ same-as-before → (o : Outcome R k (c .deed) p (turn-then R w k t held light)) → Leads codec R n C (after-did d [] 0 (finish x₀))
+      only-said u (too-long f q) = absurd (true≢false (sym f ∙ not-long skip (P .still u .0) (λ z. let i : _≡_ {A = ℕ} 0 1 = cc in omega arith)))
+      only-said u (full f g q) =
+          let same = ap kept-weight (P .still u .1) in
+          absurd (true≢false (sym g ∙ and-left _ _ (le-ltb (kept-weight k) (kept-weight (kept-after k p (c .deed))) (omega (arith, same)))))
+      only-said u (done f g q) =
+          let same : C .kept ≡ k = ap (λ i. i .next) q ∙ P .still u .1 in
+          let r : more-rows (p .rows) (C .kept .files) ≡ C .shown = ap (λ z. more-rows (p .rows) (z .files)) same ∙ rows-begin (done f g q) (ap shows-lines (P .still u .0)) skip (P .still u .0) in
+          finish-leads codec R n C x₀ (subst (λ z. Rest codec R d x₀ z) (sym same) rest₀) fits₀ (begin 0 r (omega arith)) (sym (ap (λ i. i .reply) q))
+
+      by-update : (q : Update) → p .update ≡ q → Leads codec R n C (after-did d [] 0 (do-plan q x₀))
+      by-update same-as-before u = only-said u comes-out
+      by-update current-only u = by-walk (p .walk) refl (λ z. let i : _≡_ {A = ℕ} 0 1 = cc in omega arith) comes-out
+      by-update the-text u = by-walk (p .walk) refl (λ z. let i : _≡_ {A = ℕ} 0 1 = cc in omega arith) comes-out
+      by-update (the-file m) u = by-walk (p .walk) refl (λ z. let i : _≡_ {A = ℕ} 0 1 = cc in omega arith) comes-out
+
+      pub planned-leads : Leads codec R n C (after-did d [] 0 (do-plan (p .update) x₀))
+      planned-leads = by-update (p .update) refl

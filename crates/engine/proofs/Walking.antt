@@ -32,7 +32,7 @@ abbrev pub shown-walk : Bool → Walk
 shown-walk true = show-numbered
 shown-walk false = show
 
-shown-walks : (b : Bool) → walks (shown-walk b) ≡ true
+pub shown-walks : (b : Bool) → walks (shown-walk b) ≡ true
 shown-walks true = refl
 shown-walks false = refl
 
