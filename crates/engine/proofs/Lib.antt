@@ -32,3 +32,4 @@ pub mod Given
 pub mod Kepts
 pub mod Weighing
 pub mod Obeys
+pub mod Sound

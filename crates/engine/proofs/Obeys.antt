@@ -69,7 +69,7 @@ outcome R k d p = by (turn.too-long (p .walk) (walked k p)) refl
 slot-same : (k : Kept) (c : Simple) (x : House) → x .store .small ≡ smalls-of k → slot-for x c ≡ slot-in k (name-given (c .deed))
 slot-same k c x s = ap (λ z. look-up (name-given (c .deed)) 0 0 (z .files)) s
 
-decides : (k : Kept) (c : Simple) (x : House) → x .store .small ≡ smalls-of k → decision x c ≡ turn.decision k c
+pub decides : (k : Kept) (c : Simple) (x : House) → x .store .small ≡ smalls-of k → decision x c ≡ turn.decision k c
 decides k c x s =
     (λ i. decide (sizes (s i .count) (s i .current) (text-at (s i))) (look-up (name-given (c .deed)) 0 0 (s i .files)) (given-of (c .deed)) c)
     ∙ ap (λ o. decide (sizes (length (k .text)) (k .at) o) (slot-in k (name-given (c .deed))) (given-of (c .deed)) c) (text-starts k)
