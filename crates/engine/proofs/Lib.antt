@@ -1,4 +1,5 @@
 pub mod Facts
+pub mod Pages
 pub mod Course
 pub mod Devices
 pub mod Pieces

@@ -2,11 +2,11 @@
 use mathlib.Core.Path.{_≡_, refl, sym, ap, _∙_}
 use mathlib.Core.Bool.{Bool, true, false}
 use mathlib.Core.List.{List, [], _∷_, map}
-use Prim.Native.Nat.{ℕ, zero, suc, _+_, _*_, _-_, _≤_, _<_}
+use Prim.Native.Nat.{ℕ, zero, suc, _+_, _*_, _-_, _≤_, _<_, min}
 use native.Mathlib.Omega.{arith}
 use native.Mathlib.Nat.{add-zero}
 use lib.Dec.{ltb, leb}
-use lib.ListN.{length, getD, take, drop, length-take, List·getD-map}
+use lib.ListN.{length, getD, take, drop, length-take, List·getD-map, length-drop}
 use Rattle.std.proofs.shelf.Lists.{getD-default}
 use Rattle.std.proofs.shelf.Tests.{and-parts, leb-true}
 use Rattle.plain.specs.Pattern.{pick, every, all-bytes}
@@ -15,6 +15,7 @@ use Rattle.plain.proofs.Basics.{every-append}
 use Rattle.journal.specs.Log.{copy, no-piece, pieces-of, copies, copy-records}
 use Rattle.records.specs.Pages.{page-of, record-of}
 use Rattle.commands.specs.Kept.{Kept, directory, fit-line, fit-lines, fit-file, fit-name, file-lines, Sound}
+use Rattle.records.specs.Lines.{share}
 use Rattle.engine.specs.Fits.{Word, Piece-fits, Record-fits}
 use Rattle.engine.specs.Packing.{records-of, piece-of, pieces-from, packed, packs}
 use Rattle.engine.proofs.Facts.{Codec}
@@ -73,12 +74,15 @@ every-drop p zero bs h = h
 every-drop p (suc n) [] h = refl
 every-drop p (suc n) (b ∷ bs) h = every-drop p n bs (and-parts (p b) (every p bs) h .1)
 
-pub piece-fits : (l : List ℕ) (j : ℕ) → fit-line l ≡ true → Piece-fits (piece-of l j)
+share-is : (m j : ℕ) → min 503 (m - 503 * j) ≡ share m j
+share-is m j = grind arith
+
+pub piece-fits : (l : List ℕ) (j : ℕ) → fit-line l ≡ true → Piece-fits j (piece-of l j)
 piece-fits l j h =
     let q = and-parts (leb (length l) 1024) (all-bytes l) h in
     record {
       long = leb-true (length l) 1024 (q .0);
-      short = simp length-take (omega arith);
+      here = length-take 503 (drop (503 * j) l) ∙ ap (min 503) (length-drop (503 * j) l) ∙ share-is (length l) j;
       bytes = every-take (λ b. ltb b 256) 503 (drop (503 * j) l) (every-drop (λ b. ltb b 256) (503 * j) l (q .1));
     }
 
