@@ -18,6 +18,7 @@ use typed::read;
 use words::Reading;
 use words::ReadingDisplay;
 
+/// What was typed and how it is read, in one line.
 fn reading(heap: Global, typed: &[u8]) -> io::Result<String> {
     let shown = Quoted(typed);
     let Some(command) = read(typed) else {
