@@ -9,7 +9,7 @@ use lib.Dec.{eqb}
 use lib.ListN.{length, getD, take, drop, length-append, length-take, length-drop, take-append-drop}
 use Rattle.plain.specs.Pattern.{pick, every}
 use Rattle.plain.specs.Device.{Device, Page, Tape, tape, lesser, half, left, stopped, so-many-of, tape-of, with-tape, read-record, nth-record, longer, fastened, anew}
-use Rattle.journal.proofs.Stops.{surviving, left-split}
+use Rattle.plain.proofs.Stops.{surviving, left-split}
 use Rattle.journal.specs.Log.{Rec, broken, Left, gone, torn, kept, Sides, ahead, back, Tapes, tapes, halved}
 use Rattle.journal.proofs.Stored.{left-behind}
 
