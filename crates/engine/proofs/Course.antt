@@ -15,7 +15,7 @@ use Rattle.plain.specs.Run.{page, next, read, put-on, fasten, begin, has-room}
 use Rattle.plain.specs.Promise.{May}
 use Rattle.journal.specs.Log.{Rec}
 use Rattle.journal.specs.Small.{News}
-use Rattle.journal.specs.Pages.{record-of}
+use Rattle.records.specs.Pages.{record-of}
 use Rattle.journal.specs.Machine.{Did, did, Machine}
 use Rattle.journal.proofs.Running.{Torn, Anywhere}
 use Rattle.journal.proofs.Machine.{Where, going, over, Goes, is-over, is-going, after-act, after-did, Did-it}

@@ -11,7 +11,7 @@ use Rattle.plain.specs.Promise.{May}
 use Rattle.journal.specs.Log.{Position, Rec, broken, Packed, State, tapes, halved}
 use Rattle.journal.specs.Small.{Small, News, updated, no-state}
 use Rattle.journal.specs.Room.{Carrying}
-use Rattle.journal.specs.Pages.{page-of, record-of}
+use Rattle.records.specs.Pages.{page-of, record-of}
 use Rattle.journal.proofs.Recovery as recovery
 use Rattle.journal.proofs.Lifecycle as lifecycle
 use Rattle.journal.proofs.Waiting.{waiting, Behind}

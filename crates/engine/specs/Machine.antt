@@ -13,7 +13,7 @@ use Rattle.journal.specs.Small.{Entry, entry, Small, News, news, nothing-else, 
 use Rattle.journal.specs.Machine.{Did, did, Machine}
 use Rattle.engine.specs.Fits.{Fits}
 use Rattle.engine.specs.Packing.{records-of, lines-records, piece-of}
-use Rattle.journal.specs.Pages.{page-of, record-of}
+use Rattle.records.specs.Pages.{page-of, record-of}
 use Rattle.commands.specs.Kept.{lines-size}
 use Rattle.commands.specs.Resolve as resolve
 use Rattle.commands.specs.Plan.{Plan, Walk, skip, show, show-numbered, measure, glue, Update, same-as-before, current-only, the-text, the-file, Rows, no-row, a-number, all-files, Sizes, sizes, Slot, look-up, Given, decide}

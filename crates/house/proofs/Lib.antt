@@ -1,1 +1,3 @@
-pub mod Whole
+pub mod Eight
+pub mod Right
+pub mod Steps

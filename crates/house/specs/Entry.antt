@@ -4,22 +4,19 @@ use mathlib.Core.Bool.{Bool, true, false, _&&_}
 use mathlib.Core.List.{List, [], _∷_, _++_}
 use Prim.Native.Nat.{ℕ, zero, suc, _+_, _*_}
 use lib.Dec.{eqb, leb}
-use lib.ListN.{length, take, drop, replicate}
+use lib.ListN.{length, take, drop}
 use Rattle.plain.specs.Pattern.{pick}
 use Rattle.plain.specs.Run.{Engine, Event, on, said, page, next, Act, read, put-on, fasten, begin, shows, done, refused, Step}
+use Rattle.journal.specs.Machine.{coded}
+use Rattle.house.specs.Registers.{loaded}
+use Rattle.house.specs.declared.registers.Registers.{Registers}
+use Rattle.house.specs.Machine.{answers, machine, store, zeros}
 use Rattle.house.specs.declared.Told.{Told}
 use Rattle.house.specs.declared.Told.the-variants.{Read, Append, Fasten, Begin, Shows, Done, No}
 
--- power is taken note of; no command is known yet
-abbrev pub answer : Event → Act
-answer (on room) = done
-answer (said text) = refused 2
-answer (page bytes) = refused 2
-answer next = refused 2
-
 -- The house: its memory at the start, and what it makes of memory and event.
 unfoldable pub own : Engine
-own = record { start = replicate 262144 0; step = λ m ev. record { memory = m; act = answer ev } }
+own = coded machine loaded store zeros
 
 -- what the world tells is a kind and some bytes: 0 power, with a number of eight bytes, the highest first, 1 a command, 2 a record, 3 go on
 unfoldable pub from-eight : ℕ → List ℕ → ℕ
@@ -38,6 +35,11 @@ Act-told (begin t) r out out₁ = (r ≡ Begin t) × (out₁ ≡ out)
 Act-told (shows s) r out out₁ = (r ≡ Shows (length s)) × (out₁ ≡ s ++ drop (length s) out)
 Act-told done r out out₁ = (r ≡ Done) × (out₁ ≡ out)
 Act-told (refused k) r out out₁ = (r ≡ No k) × (out₁ ≡ out)
+
+-- registers and act after something was told, whatever the row holds
+pub record Answered (r : Registers) (ev : Event) (r₁ : Registers) (told : Told) : Type 0 where
+  pub state : r₁ ≡ answers r ev .state
+  pub act : (out : List ℕ) → Act-told (answers r ev .act) told out out
 
 -- one step: for memories of the house's own length and a lent row of 131,072 bytes; for others number 0 is told and nothing is changed
 unfoldable pub Step-says : (memory : List ℕ) (kind : ℕ) (bytes out : List ℕ) → Bool → Told → (memory₁ out₁ : List ℕ) → Type 0

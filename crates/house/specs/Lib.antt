@@ -1,1 +1,3 @@
+pub mod Registers
+pub mod Machine
 pub mod Entry

@@ -6,7 +6,7 @@ use mathlib.Core.List.{List, [], _∷_, _++_, map, map-append, append-assoc, app
 use Prim.Native.Nat.{ℕ, zero, suc, _+_, _-_, _≤_, _<_}
 use native.Mathlib.Omega.{arith}
 use lib.Dec.{eqb}
-use lib.ListN.{length, getD, take, drop, length-append, length-take}
+use lib.ListN.{length, getD, take, drop, length-append, length-take, length-drop, take-append-drop}
 use Rattle.plain.specs.Pattern.{pick, every}
 use Rattle.plain.specs.Device.{Device, Page, Tape, tape, lesser, half, left, stopped, so-many-of, tape-of, with-tape, read-record, nth-record, longer, fastened, anew}
 use Rattle.journal.proofs.Stops.{surviving, left-split}
@@ -75,7 +75,7 @@ module _ {K : Type 0} (read : Page → Rec K) where
   pub tape-holds-anew : Tape-holds (tape [] 0) [] []
   tape-holds-anew = record { fasts = []; looses = []; is = refl; fast-read = refl; loose-read = refl }
 
-  all-fast : (z : Tape) → z .loose ≡ 0 → Tape-holds z (map read (z .records)) []
+  pub all-fast : (z : Tape) → z .loose ≡ 0 → Tape-holds z (map read (z .records)) []
   all-fast z e = record {
     fasts = z .records;
     looses = [];
@@ -83,6 +83,14 @@ module _ {K : Type 0} (read : Page → Rec K) where
     fast-read = refl;
     loose-read = refl;
   }
+
+  -- any tape, as its fast and its loose records
+  pub some-fast : (z : Tape) → z .loose ≤ length (z .records) → Tape-holds z (map read (take (length (z .records) - z .loose) (z .records))) (map read (drop (length (z .records) - z .loose) (z .records)))
+  some-fast z h =
+      let n : ℕ = length (z .records) - z .loose in
+      let p : z .records ≡ take n (z .records) ++ drop n (z .records) = sym (take-append-drop n (z .records)) in
+      let q : z .loose ≡ length (drop n (z .records)) = simp length-drop (omega arith) in
+      record { fasts = take n (z .records); looses = drop n (z .records); is = λ i. record { records = p i; loose = q i }; fast-read = refl; loose-read = refl }
 
   -- tape x holds T, fast, and P behind it, loose; tape y holds F, fast, and L
   pub record Layout (v : Device) (x y : ℕ) (T P F L : List (Rec K)) : Type 0 where

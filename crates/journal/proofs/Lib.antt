@@ -17,3 +17,4 @@ pub mod Lifecycle
 pub mod Bounds
 pub mod Small
 pub mod Room
+pub mod Laws

@@ -2,4 +2,4 @@ pub mod Machine
 pub mod Log
 pub mod Small
 pub mod Room
-pub mod Pages
+pub mod Laws

@@ -56,6 +56,9 @@ pub struct Range<'a> {
     pub second: Address<'a>,
 }
 
+/// How many digits a number may have.
+const DIGITS: usize = 9;
+
 const HERE: Address<'static> = Address {
     place: Place::Current,
     on: 0,
@@ -70,7 +73,7 @@ pub(crate) fn number(cs: &[u8]) -> Option<(u64, &[u8])>
     let mut count: usize = 0;
     let mut rest = cs;
     while let [c @ b'0'..=b'9', tail @ ..] = rest {
-        if count == 9 {
+        if count == DIGITS {
             return None;
         }
         value = 10 * value + u64::from(*c - b'0');

@@ -12,6 +12,9 @@ use crate::deeds::Deed;
 use crate::deeds::may_repeat;
 use crate::deeds::read_deed;
 
+/// The most bytes that are typed.
+pub const LONGEST_TYPED: usize = 65535;
+
 /// A range, and what is to be done with it.
 #[derive(Clone, Copy)]
 pub struct Simple<'a> {
@@ -77,11 +80,11 @@ fn read_command(cs: &[u8]) -> Option<Command<'_>>
     }
 }
 
-/// The command that was typed, if these bytes are one: at most 65,535 of them.
+/// The command that was typed, if these bytes are one: no more than `LONGEST_TYPED` of them are.
 pub fn read(typed: &[u8]) -> Option<Command<'_>>
     ensures { λ r. ⌜ listed command-of r ≡ reads (now (typed .entry)) ⌝ }
 {
-    if typed.len() > 65535 {
+    if typed.len() > LONGEST_TYPED {
         return None;
     }
     read_command(typed)

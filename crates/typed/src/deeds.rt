@@ -12,6 +12,12 @@ use crate::addresses::up_to;
 use crate::given::Lines;
 use crate::given::given_lines;
 
+/// The longest name of a file, in bytes.
+const LONGEST_NAME: usize = 64;
+
+/// The least that counts a match.
+const FIRST_MATCH: u64 = 1;
+
 /// Which match in a line is replaced.
 #[derive(Clone, Copy)]
 pub enum Which {
@@ -59,7 +65,7 @@ fn file_name(cs: &[u8]) -> Option<&[u8]>
     let [b' ', name @ ..] = cs else {
         return None;
     };
-    if name.is_empty() || name.len() > 64 || name.contains(&b'\n') {
+    if name.is_empty() || name.len() > LONGEST_NAME || name.contains(&b'\n') {
         return None;
     }
     Some(name)
@@ -81,7 +87,7 @@ fn which_match(cs: &[u8]) -> Option<Which>
         [b'g'] => Some(Which::All),
         _ => {
             let (n, rest) = number(cs)?;
-            if n >= 1 && rest.is_empty() && cs.len() <= 3 {
+            if n >= FIRST_MATCH && rest.is_empty() && cs.len() <= 3 {
                 Some(Which::Nth(n))
             } else {
                 None

@@ -8,9 +8,9 @@ use Rattle.typed.proofs.addresses.number.Needs.{in-rest, in-rest·2, in-rest·
 pub loop-rest-holds : need.loop-rest-holds
 loop-rest-holds c = start _
 
-pub returns-then-count-eq9 : need.returns-then-count-eq9
-returns-then-count-eq9 c =
-    too-many _ _ _ _ (c .loop-rest .inv) (c .if-count-eq9 .taken) (omega (arith, ltb-true, ltb-false)) (omega (arith, ltb-true, ltb-false)) (omega (arith, ltb-true, ltb-false))
+pub returns-then-count-eq-DIGITS : need.returns-then-count-eq-DIGITS
+returns-then-count-eq-DIGITS c =
+    too-many _ _ _ _ (c .loop-rest .inv) (c .if-count-eq-DIGITS .taken) (omega (arith, ltb-true, ltb-false)) (omega (arith, ltb-true, ltb-false)) (omega (arith, ltb-true, ltb-false))
 
 pub mul-value : need.mul-value
 mul-value c = omega (arith, at-most _ _ (c .loop-rest .inv .small) (c .loop-rest .inv .few))
@@ -20,7 +20,7 @@ add-value c = omega (arith, at-most _ _ (c .loop-rest .inv .small) (c .loop-rest
 
 pub loop-rest-again : need.loop-rest-again
 loop-rest-again c =
-    one-more _ _ _ _ _ _ (c .loop-rest .inv) (omega (arith, ltb-true, ltb-false)) (omega (arith, ltb-true, ltb-false)) (omega (arith, ltb-true, ltb-false)) (c .if-count-eq9 .left) (omega arith) (take-rest (c .loop-rest .rest .now) 1)
+    one-more _ _ _ _ _ _ (c .loop-rest .inv) (omega (arith, ltb-true, ltb-false)) (omega (arith, ltb-true, ltb-false)) (omega (arith, ltb-true, ltb-false)) (c .if-count-eq-DIGITS .left) (omega arith) (take-rest (c .loop-rest .rest .now) 1)
 
 pub returns : need.returns
 returns c =

@@ -1,0 +1,4 @@
+pub mod Lines
+pub mod Pages
+pub mod Laws
+pub mod Values
