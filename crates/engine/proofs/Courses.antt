@@ -38,7 +38,8 @@ module _ (R : ℕ) (w : Plain) (k : Kept) (t : List ℕ) (h : Held w k) (l : kep
         next = turn w c .next;
         held = s .next;
         light = room-kept R k (kept-turn k c .next) l z;
-        may = λ r m. inl (c, e, f, inl (s .reply, s .shows, refl, spends-alike w k c r h f (turn w c) (kept-turn k c .shows) (s .shows) ∙ sym (ap (λ cs. may-spend-on k cs r) e) ∙ m)) }
+        may = λ r m. inl (c, e, f, inl (s .reply, s .shows, refl, spends-alike w k c r h f (turn w c) (kept-turn k c .shows) (s .shows) ∙ sym (ap (λ cs. may-spend-on k cs r) e) ∙ m));
+      }
 
   -- for want of room; no record may have to be used for that
   known-full : (c : Command) → reads t ≡ c ∷ [] → core c ≡ true → no-room R k (kept-turn k c .next) ≡ true → Answers R w k t (kept-no 8 k)
@@ -63,7 +64,7 @@ module _ (R : ℕ) (w : Plain) (k : Kept) (t : List ℕ) (h : Held w k) (l : kep
   one c true e f = known c (no-room R k (kept-turn k c .next)) e f refl
   one c false e f =
       subst (Answers R w k t) (sym (ap (within-room R k) (unknown-turn k c f) ∙ no-turn R 2 k))
-        (record { next = w; held = h; light = l; may = λ r m. inr (inl (c, e, f, refl, refl, refl)) })
+      (record { next = w; held = h; light = l; may = λ r m. inr (inl (c, e, f, refl, refl, refl)) })
 
   all : (cs : List Command) → reads t ≡ cs → length cs ≤ 1 → Answers R w k t (typed-turn R k cs)
   unfolding May

@@ -23,11 +23,11 @@ range-within cs =
     let n : ℕ = length cs in
     let less = less-within cs in
     either n (next-is 37 cs) (got (range-of 4 here here) (less-one cs)) _ less
-      (either n (starts-address cs) (with-got (an-address cs) (λ a ds. pick (or (next-is 44 ds) (next-is 59 ds)) (with-got (or-here (less-one ds)) (λ b es. got (range-of (pick (next-is 44 ds) 2 3) a b) es)) (got (range-of 1 a here) ds))) _
-        (onward n (an-address cs) _ (address-within cs) (λ a ds h.
-          either n (or (next-is 44 ds) (next-is 59 ds)) (with-got (or-here (less-one ds)) (λ b es. got (range-of (pick (next-is 44 ds) 2 3) a b) es)) (got (range-of 1 a here) ds)
-            (onward n (or-here (less-one ds)) _ (more (length (less-one ds)) n (or-here (less-one ds)) (let l = less-within ds in omega arith) (or-here-within (less-one ds))) (λ b es k. k)) h))
-        (either n (next-is 44 cs) (got (range-of 4 here here) (less-one cs)) (got (range-of 0 here here) cs) less (omega arith)))
+    (either n (starts-address cs) (with-got (an-address cs) (λ a ds. pick (or (next-is 44 ds) (next-is 59 ds)) (with-got (or-here (less-one ds)) (λ b es. got (range-of (pick (next-is 44 ds) 2 3) a b) es)) (got (range-of 1 a here) ds))) _
+    (onward n (an-address cs) _ (address-within cs) (λ a ds h.
+    either n (or (next-is 44 ds) (next-is 59 ds)) (with-got (or-here (less-one ds)) (λ b es. got (range-of (pick (next-is 44 ds) 2 3) a b) es)) (got (range-of 1 a here) ds)
+    (onward n (or-here (less-one ds)) _ (more (length (less-one ds)) n (or-here (less-one ds)) (let l = less-within ds in omega arith) (or-here-within (less-one ds))) (λ b es k. k)) h))
+    (either n (next-is 44 cs) (got (range-of 4 here here) (less-one cs)) (got (range-of 0 here here) cs) less (omega arith)))
 
 -- so many lines at most
 abbrev Few : ℕ → Got ℕ Deed → Type 0
@@ -68,7 +68,7 @@ deed-few (c ∷ cs) =
     (pick-both F (eqb c 109) (with-got (or-here cs) (λ a ds. ended (move a) ds)) _ (with-few n (or-here cs) _ (λ a ds. ended-few n (move a) ds (omega arith)))
     (pick-both F (eqb c 116) (with-got (or-here cs) (λ a ds. ended (copy a) ds)) _ (with-few n (or-here cs) _ (λ a ds. ended-few n (copy a) ds (omega arith)))
     (pick-both F (eqb c 107) (pick (eqb (length cs) 1 && between 97 122 (getD cs 0 0)) (got (mark (getD cs 0 0)) []) none) _
-      (pick-both F (eqb (length cs) 1 && between 97 122 (getD cs 0 0)) (got (mark (getD cs 0 0)) []) none (omega arith) refl)
+    (pick-both F (eqb (length cs) 1 && between 97 122 (getD cs 0 0)) (got (mark (getD cs 0 0)) []) none (omega arith) refl)
     (pick-both F (eqb c 112) (ended print cs) _ (ended-few n print cs (omega arith))
     (pick-both F (eqb c 110) (ended number cs) _ (ended-few n number cs (omega arith))
     (pick-both F (eqb c 61) (ended where-is cs) _ (ended-few n where-is cs (omega arith))
@@ -79,9 +79,9 @@ deed-few (c ∷ cs) =
     (pick-both F (eqb c 114) (with-got (a-file cs) (λ m ds. got (load m) ds)) _ (with-few n (a-file cs) _ (λ m ds. omega arith))
     (pick-both F (eqb c 102) (ended files cs) _ (ended-few n files cs (omega arith))
     (pick-both F (eqb c 115) (pick (next-is 47 cs) (with-got (up-to 47 [] (less-one cs)) (λ p ds. with-got (up-to 47 [] ds) (λ r es. with-got (which-of es) (λ k fs. got (swap p r k) fs)))) none) none
-      (pick-both F (next-is 47 cs) (with-got (up-to 47 [] (less-one cs)) (λ p ds. with-got (up-to 47 [] ds) (λ r es. with-got (which-of es) (λ k fs. got (swap p r k) fs)))) none
-        (with-few n (up-to 47 [] (less-one cs)) _ (λ p ds. with-few n (up-to 47 [] ds) _ (λ r es. with-few n (which-of es) _ (λ k fs. omega arith)))) refl)
-      refl)))))))))))))))))
+    (pick-both F (next-is 47 cs) (with-got (up-to 47 [] (less-one cs)) (λ p ds. with-got (up-to 47 [] ds) (λ r es. with-got (which-of es) (λ k fs. got (swap p r k) fs)))) none
+    (with-few n (up-to 47 [] (less-one cs)) _ (λ p ds. with-few n (up-to 47 [] ds) _ (λ r es. with-few n (which-of es) _ (λ k fs. omega arith)))) refl)
+    refl)))))))))))))))))
   where
     some : (f : List (List ℕ) → Deed) → ((l : List (List ℕ)) → lines-given (f l) ≡ l) → Few (suc (length cs)) (with-got (given cs) (λ l ds. got (f l) ds))
     some f e = lines-deed (suc (length cs)) (given cs) f (less (given cs) (given-few cs)) (λ l h. omega (arith, ap length (e l)))
@@ -113,14 +113,14 @@ command-few cs = go (a-range cs) (range-within cs)
   where
     go : (g : Got ℕ Range) → Within (length cs) g → Command-few (length cs) (with-got g (λ r ds.
         pick (or (next-is 103 ds) (next-is 118 ds))
-            (pick (next-is 47 (less-one ds))
-                (with-got (up-to 47 [] (less-one (less-one ds))) (λ p es. with-got (simple es) (λ s fs. pick (for-many (s .deed)) (got (all-lines r (next-is 103 ds) p s) fs) none))) none)
-            (with-got (deed ds) (λ d es. got (plain (record { range = r; deed = d })) es))))
+        (pick (next-is 47 (less-one ds))
+        (with-got (up-to 47 [] (less-one (less-one ds))) (λ p es. with-got (simple es) (λ s fs. pick (for-many (s .deed)) (got (all-lines r (next-is 103 ds) p s) fs) none))) none)
+        (with-got (deed ds) (λ d es. got (plain (record { range = r; deed = d })) es))))
     go none h = refl
     go (got r ds) h =
         pick-both (Command-few (length cs)) (or (next-is 103 ds) (next-is 118 ds)) _ (with-got (deed ds) (λ d es. got (plain (record { range = r; deed = d })) es))
-          (pick-both (Command-few (length cs)) (next-is 47 (less-one ds)) _ none (all-few (length cs) r (next-is 103 ds) (up-to 47 [] (less-one (less-one ds)))) refl)
-          (plain-few (length cs) (length ds) r (deed ds) h (deed-few ds))
+        (pick-both (Command-few (length cs)) (next-is 47 (less-one ds)) _ none (all-few (length cs) r (next-is 103 ds) (up-to 47 [] (less-one (less-one ds)))) refl)
+        (plain-few (length cs) (length ds) r (deed ds) h (deed-few ds))
 
 whole-few : (n : ℕ) (g : Got ℕ Command) (c : Simple) → Command-few n g → whole-command g ≡ plain c ∷ [] → length (lines-given (c .deed)) ≤ n
 unfolding whole-command

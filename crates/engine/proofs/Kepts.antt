@@ -33,19 +33,22 @@ files-words B (f ∷ fs) b h e =
     let q = and-parts (fit-name (f .name)) (fit-lines (f .lines)) (p .0) in
     let l = few-lines (f .lines) in
     and-from (entry-fits (entry-of f)) (every entry-fits (table fs))
-      (and-from _ _ (q .0) (and-from _ _ (lt-ltb (length (f .lines)) 4294967296 (omega arith)) (lt-ltb (lines-size (f .lines)) 4294967296 (omega arith))))
-      (files-words B fs b (omega arith) (p .1))
+    (and-from _ _ (q .0) (and-from _ _ (lt-ltb (length (f .lines)) 4294967296 (omega arith)) (lt-ltb (lines-size (f .lines)) 4294967296 (omega arith))))
+    (files-words B fs b (omega arith) (p .1))
 
 pub small-fits : (k : Kept) → Sound k → kept-weight k ≤ 33554432 → Small-fits (smalls-of k)
 small-fits k s h =
     let l = few-lines (k .text) in
     let c = s .current in
     record {
-      count = omega arith; current = omega arith; weight = omega arith;
+      count = omega arith;
+      current = omega arith;
+      weight = omega arith;
       ring-few = s .few-stands;
       ring = sum-words (kept-weight k) (k .ring) (omega arith) (omega arith);
       files-few = omega (arith, length-each entry-of (k .files), s .few-files);
-      files = files-words (kept-weight k) (k .files) (omega arith) (omega arith) (s .files-fit) }
+      files = files-words (kept-weight k) (k .files) (omega arith) (omega arith) (s .files-fit);
+    }
 
 pub directory-few : (R : ℕ) (k : Kept) → kept-weight k ≤ 32 * R → R ≤ 1048576 → length (directory k) ≤ 524288
 directory-few R k h r = let a = directory-weighs k in let b = lines-few (directory k) in omega arith

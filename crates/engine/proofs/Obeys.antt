@@ -58,9 +58,11 @@ outcome R k d p = by (turn.too-long (p .walk) (walked k p)) refl
   where
     all-done : Kept-turn
     all-done = record { reply = 0; shows = rows-of k p; next = kept-after k p d }
+
     room : (b : Bool) → turn.too-long (p .walk) (walked k p) ≡ false → turn.no-room R k (kept-after k p d) ≡ b → Outcome R k d p (pick b (kept-no 8 k) (record { reply = 0; shows = rows-of k p; next = kept-after k p d }))
     room true f e = full f e refl
     room false f e = done f e refl
+
     by : (b : Bool) → turn.too-long (p .walk) (walked k p) ≡ b → Outcome R k d p (within-room R k (pick b (kept-no 7 k) (record { reply = 0; shows = rows-of k p; next = kept-after k p d })))
     by true e = too-long e (no-turn R 7 k)
     by false e = room (turn.no-room R k (kept-after k p d)) e refl
@@ -102,9 +104,9 @@ module _ (codec : Codec) (R n : ℕ) (most : R ≤ 1048576) {w : Plain} {t : Lis
         let z = sized R most k (held .sound) light d p A y r P (h .2) light₁ in
         let rows-are : more-rows (p .rows) (k .files) ≡ more-rows (p .rows) (C .kept .files) = elim (P .rows) [ inl a ↦ absurd (changes a) | inr a ↦ a (k .files) (C .kept .files) ] in
         let o₁ : On-course codec R n C ss (more-rows (p .rows) (C .kept .files)) s (130 + 6 * quota-by (p .splice .source) (size-of p) + 2 * suc (lines-records (new-lines-of k p (lines-given d)))) =
-              subst (λ m. On-course codec R n C ss m s (130 + 6 * quota-by (p .splice .source) (size-of p) + 2 * suc (lines-records (new-lines-of k p (lines-given d))))) rows-are o in
+        subst (λ m. On-course codec R n C ss m s (130 + 6 * quota-by (p .splice .source) (size-of p) + 2 * suc (lines-records (new-lines-of k p (lines-given d))))) rows-are o in
         let o₂ : On-course codec R n C ss (more-rows (y .job .plan .rows) (C .kept .files)) s (130 + 6 * quota-of y + 2 * need y) =
-              subst (λ (j : Job). On-course codec R n C ss (more-rows (j .plan .rows) (C .kept .files)) s (130 + 6 * quota-by (j .plan .splice .source) (size-of (j .plan)) + 2 * suc (lines-records (j .lines)))) (sym (h .2)) o₁ in
+        subst (λ (j : Job). On-course codec R n C ss (more-rows (j .plan .rows) (C .kept .files)) s (130 + 6 * quota-by (j .plan .splice .source) (size-of (j .plan)) + 2 * suc (lines-records (j .lines)))) (sym (h .2)) o₁ in
         weigh-chosen y v ss s false h e (prepare-leads codec R n C k held light y (h .0) (h .1) z b o₂ q)
 
 -- WHAT IS PUT ON fits
@@ -214,8 +216,10 @@ module _ (codec : Codec) (R n : ℕ) (most : R ≤ 1048576) (w : Plain) (k : Kep
       where
         given : fit-lines (lines-given (c .deed)) ≡ true
         given = fit-given (lines-given (c .deed)) (and-parts (every all-bytes (lines-given (c .deed))) (fit-name (name-given (c .deed))) (reads-well t (plain c) e) .0) (P .short)
+
         walked-fit : fit-lines (walked k p) ≡ true
         walked-fit = fit-part (p .after) (p .upto - p .after) (k .text) (held .sound .lines-fit)
+
         by : (v : Walk) → turn.too-long v (walked k p) ≡ false → fit-lines (turn.put-lines v (walked k p) (lines-given (c .deed))) ≡ true
         by skip f = given
         by show f = given
@@ -253,10 +257,13 @@ module _ (codec : Codec) (R n : ℕ) (most : R ≤ 1048576) (w : Plain) (k : Kep
           let wf = went-few (walks (p .walk)) (ltb (p .after) (p .upto)) (x .store .small .weight) in
           let ww = fits .store .small .weight in
           record {
-            tapes = fits .tapes; store = fits .store;
+            tapes = fits .tapes;
+            store = fits .store;
             job = record { plan = P .fits; name = leb-true _ _ (nm .0); name-bytes = nm .1; size = omega (arith, se, sl) };
             walking = record { line = P .fits .after; part = omega arith; went = omega (arith, wf, ww); bytes-few = omega arith; bytes = refl };
-            putting = fits .putting; carrying = fits .carrying }
+            putting = fits .putting;
+            carrying = fits .carrying;
+          }
 
       rest₀ : Rest codec R d x₀ k
       rest₀ = rest-as codec (x .phase) (x₀ .job) (x₀ .walking) (x .putting) (x .carrying) rest
@@ -373,13 +380,16 @@ module _ (codec : Codec) (R n : ℕ) (most : R ≤ 1048576) (w : Plain) (k : Kep
         where
           joined-short : length (turn.glued-lines (walked k p)) ≤ 1024 → turn.too-long (p .walk) (walked k p) ≡ false
           joined-short l = ap (λ z. turn.too-long z (walked k p)) m ∙ le-ltb 1024 (length (turn.glued-lines (walked k p))) l
+
           joined-long : 1024 < length (turn.glued-lines (walked k p)) → turn.too-long (p .walk) (walked k p) ≡ true
           joined-long l = ap (λ z. turn.too-long z (walked k p)) m ∙ lt-ltb 1024 (length (turn.glued-lines (walked k p))) l
+
           joined-job : record { plan = p; name = name-given (c .deed); size = slot-for x c .size; lines = turn.glued-lines (walked k p) ∷ [] } ≡ job-for k (c .deed) p
           joined-job =
               let z = ap (λ y. y .size) (slot-same k c x s) in
               let l : turn.glued-lines (walked k p) ∷ [] ≡ new-lines-of k p (lines-given (c .deed)) = ap (λ y. turn.put-lines y (walked k p) (lines-given (c .deed))) (sym m) in
               λ i. record { plan = p; name = name-given (c .deed); size = z i; lines = l i }
+
           long-refused : (o : Outcome R k (c .deed) p (turn-then R w k t held light)) → turn.too-long (p .walk) (walked k p) ≡ true → (ph : Phase) (v : Walking) (r : ℕ) → Fits (walk-with ph v x₀) → Rest codec R d (walk-with ph v x₀) k →
               On-course codec R n C [] (more-for o) r left-over → Leads codec R n C (after-did d [] r (refuses 7 (walk-with ph v x₀)))
           long-refused (full f g q) h ph v r z a y = absurd (true≢false (sym h ∙ f))

@@ -154,9 +154,16 @@ module _ (k : Kept) (few : length (directory k) ≤ 524288) where
   unfolding updated-by turn.more-rows
   text-job r d w a b came at ab bn c16 cur long still hidden short g = record {
     fits = record {
-      after = omega (arith, text-few); upto = omega (arith, text-few); update = tt;
+      after = omega (arith, text-few);
+      upto = omega (arith, text-few);
+      update = tt;
       splice = record { from = omega (arith, text-few); gone = omega (arith, text-few); source = tt };
-      came = omega arith; span = omega (arith, text-few); count = omega (arith, text-few); current = omega (arith, text-few); rows = tt };
+      came = omega arith;
+      span = omega (arith, text-few);
+      count = omega (arith, text-few);
+      current = omega (arith, text-few);
+      rows = tt;
+    };
     source = of-new tt refl (omega arith);
     few = omega (arith, long);
     came = refl;
@@ -166,7 +173,8 @@ module _ (k : Kept) (few : length (directory k) ≤ 524288) where
     light = λ e. absurd (true≢false (sym e ∙ hidden));
     rows = inr (λ fs gs. refl);
     still = λ e. absurd (let z : _≡_ {A = ℕ} 0 1 = cc in omega arith);
-    short = short }
+    short = short;
+  }
     where
       ne-lt : a ≡ b → ltb a b ≡ false
       ne-lt e = le-ltb a b (omega arith)
@@ -177,9 +185,16 @@ module _ (k : Kept) (few : length (directory k) ≤ 524288) where
   unfolding updated-by turn.put-lines turn.more-rows
   gone-job r d a b at ab bn cur none g = record {
     fits = record {
-      after = omega (arith, text-few); upto = omega (arith, text-few); update = tt;
+      after = omega (arith, text-few);
+      upto = omega (arith, text-few);
+      update = tt;
       splice = record { from = omega (arith, text-few); gone = omega (arith, text-few); source = tt };
-      came = omega arith; span = omega (arith, text-few); count = omega (arith, text-few); current = omega (arith, text-few); rows = tt };
+      came = omega arith;
+      span = omega (arith, text-few);
+      count = omega (arith, text-few);
+      current = omega (arith, text-few);
+      rows = tt;
+    };
     source = of-new (ap length none) refl (omega arith);
     few = omega (arith, ap length none);
     came = refl;
@@ -189,7 +204,8 @@ module _ (k : Kept) (few : length (directory k) ≤ 524288) where
     light = λ e. absurd (false≢true e);
     rows = inr (λ fs gs. refl);
     still = λ e. absurd (let z : _≡_ {A = ℕ} 0 1 = cc in omega arith);
-    short = ap short-all none }
+    short = ap short-all none;
+  }
 
   -- lines are shown
   show-job : (r : Checked Bounds) (d : Deed) (w : Walk) (a b : ℕ) → walks w ≡ true → turn.put-lines w (take (b - a) (drop a (k .text))) (lines-given d) ≡ [] → short-all (lines-given d) ≡ true → a ≤ b → b ≤ length (k .text) →
@@ -197,9 +213,16 @@ module _ (k : Kept) (few : length (directory k) ≤ 524288) where
   unfolding updated-by turn.more-rows
   show-job r d w a b walking none short ab bn g = record {
     fits = record {
-      after = omega (arith, text-few); upto = omega (arith, text-few); update = tt;
+      after = omega (arith, text-few);
+      upto = omega (arith, text-few);
+      update = tt;
       splice = record { from = omega arith; gone = omega arith; source = tt };
-      came = omega arith; span = omega (arith, text-few); count = omega (arith, text-few); current = omega (arith, text-few); rows = tt };
+      came = omega arith;
+      span = omega (arith, text-few);
+      count = omega (arith, text-few);
+      current = omega (arith, text-few);
+      rows = tt;
+    };
     source = of-new (ap length none) refl (omega arith);
     few = omega (arith, ap length none);
     came = refl;
@@ -209,16 +232,24 @@ module _ (k : Kept) (few : length (directory k) ≤ 524288) where
     light = λ e. refl;
     rows = inr (λ fs gs. refl);
     still = λ e. absurd (let z : _≡_ {A = ℕ} 0 1 = cc in omega arith);
-    short = short }
+    short = short;
+  }
 
   -- something is said
   say-job : (r : Checked Bounds) (d : Deed) (rows : Rows) → Rows-fit rows → k .at ≤ length (k .text) → lines-given d ≡ [] → cost (say-plan (sizes-of k) rows) [] ≤ limit r d (say-plan (sizes-of k) rows) → Job-plan k r d (say-plan (sizes-of k) rows)
   unfolding turn.put-lines updated-by
   say-job r d rows rf cur none g = record {
     fits = record {
-      after = omega arith; upto = omega arith; update = tt;
+      after = omega arith;
+      upto = omega arith;
+      update = tt;
       splice = record { from = omega arith; gone = omega arith; source = tt };
-      came = omega arith; span = omega arith; count = omega (arith, text-few); current = omega (arith, text-few); rows = rf };
+      came = omega arith;
+      span = omega arith;
+      count = omega (arith, text-few);
+      current = omega (arith, text-few);
+      rows = rf;
+    };
     source = of-new (ap length none) refl (omega arith);
     few = omega (arith, ap length none);
     came = refl;
@@ -228,7 +259,8 @@ module _ (k : Kept) (few : length (directory k) ≤ 524288) where
     light = λ e. refl;
     rows = inl refl;
     still = λ e. (refl, refl);
-    short = ap short-all none }
+    short = ap short-all none;
+  }
 
   -- a file gets copies of lines of the text
   save-job : (r : Checked Bounds) (n : List ℕ) (a b : ℕ) → k .at ≤ length (k .text) → a ≤ b → b ≤ length (k .text) → slot-in k n .place ≤ 64 → (There n (k .files) (slot-in k n) 0 0 ⊎ Missing n (k .files) (slot-in k n) 0 0) →
@@ -238,9 +270,16 @@ module _ (k : Kept) (few : length (directory k) ≤ 524288) where
       let inside = slot-inside (k .files) n (slot-in k n) x in
       record {
         fits = record {
-          after = omega (arith, text-few); upto = omega (arith, text-few); update = place;
+          after = omega (arith, text-few);
+          upto = omega (arith, text-few);
+          update = place;
           splice = record { from = omega (arith, text-few); gone = omega (arith, text-few); source = (omega (arith, text-few), omega (arith, text-few)) };
-          came = omega (arith, text-few); span = omega (arith, text-few); count = omega (arith, text-few); current = omega (arith, text-few); rows = omega (arith, text-few) };
+          came = omega (arith, text-few);
+          span = omega (arith, text-few);
+          count = omega (arith, text-few);
+          current = omega (arith, text-few);
+          rows = omega (arith, text-few);
+        };
         source = of-copies refl;
         few = omega arith;
         came = sym (ap lines-size (again-text k a b));
@@ -250,7 +289,8 @@ module _ (k : Kept) (few : length (directory k) ≤ 524288) where
         light = λ e. absurd (false≢true e);
         rows = inr (λ fs gs. refl);
         still = λ e. absurd (let z : _≡_ {A = ℕ} 0 1 = cc in omega arith);
-        short = refl }
+        short = refl;
+      }
 
   -- the text becomes copies of a file's lines
   edit-job : (r : Checked Bounds) (n : List ℕ) → slot-in k n .found ≡ true → (There n (k .files) (slot-in k n) 0 0 ⊎ Missing n (k .files) (slot-in k n) 0 0) →
@@ -264,12 +304,19 @@ module _ (k : Kept) (few : length (directory k) ≤ 524288) where
       let long : s .lines ≡ length (x .f .lines) = ap (λ z. z .lines) (x .slot) in
       let size : s .size ≡ lines-size (x .f .lines) = ap (λ z. z .size) (x .slot) in
       let came : take ((s .before + s .lines) - s .before) (drop (s .before) (directory k)) ≡ x .f .lines =
-            ap (λ m. take ((s .before + m) - s .before) (drop (s .before) (directory k))) long ∙ again-file k (x .P) (x .f) (x .R) (s .before) (x .split) from in
+      ap (λ m. take ((s .before + m) - s .before) (drop (s .before) (directory k))) long ∙ again-file k (x .P) (x .f) (x .R) (s .before) (x .split) from in
       record {
         fits = record {
-          after = omega arith; upto = omega (arith, text-few); update = tt;
+          after = omega arith;
+          upto = omega (arith, text-few);
+          update = tt;
           splice = record { from = omega (arith, text-few); gone = omega (arith, text-few); source = (omega (arith, text-few), omega (arith, text-few)) };
-          came = omega (arith, text-few); span = omega (arith, text-few); count = omega (arith, text-few); current = omega (arith, text-few); rows = omega (arith, text-few) };
+          came = omega (arith, text-few);
+          span = omega (arith, text-few);
+          count = omega (arith, text-few);
+          current = omega (arith, text-few);
+          rows = omega (arith, text-few);
+        };
         source = of-copies refl;
         few = omega arith;
         came = size ∙ sym (ap lines-size came);
@@ -279,10 +326,12 @@ module _ (k : Kept) (few : length (directory k) ≤ 524288) where
         light = λ z. absurd (false≢true z);
         rows = inr (λ fs gs. refl);
         still = λ z. absurd (let y : _≡_ {A = ℕ} 0 1 = cc in omega arith);
-        short = refl }
+        short = refl;
+      }
     where
       all-of : lines-size (take (length (k .text) - 0) (k .text)) ≡ lines-size (k .text)
       all-of = ap (λ m. lines-size (take m (k .text))) (let q : length (k .text) - 0 ≡ length (k .text) = omega arith in q) ∙ ap lines-size (take-length (k .text))
+
       whole : (b : Bool) → ltb 0 (length (k .text)) ≡ b → pick b (lines-size (k .text)) 0 ≡ lines-size (take (length (k .text) - 0) (k .text))
       whole true e = sym all-of
       whole false e = sym (all-of ∙ ap lines-size (nil-from-length (k .text) (let a = ltb-false 0 (length (k .text)) e in omega arith)))
@@ -302,17 +351,17 @@ module _ (k : Kept) (sound : Sound k) (few : length (directory k) ≤ 524288) wh
   unfolding decide-deed lines-given name-given turn.put-lines goes-through
   deed-jobs (append ls) r o g =
       then-jobs k (append ls) r _ o (λ b h. check-jobs k (good b) (append ls) (short-all ls) 7 _ (λ s. check-jobs k (good b) (append ls) (leb (b .last) (length (k .text))) 4 _ (λ e. (let l = leb-true _ _ e in let m = lines-most ls in
-        text-job k few (good b) (append ls) skip (b .last) (b .last) (length ls) (b .last + length ls) (omega arith) l (omega arith) (omega arith) refl (λ q. refl) refl s (omega arith)))))
+      text-job k few (good b) (append ls) skip (b .last) (b .last) (length ls) (b .last + length ls) (omega arith) l (omega arith) (omega arith) refl (λ q. refl) refl s (omega arith)))))
   deed-jobs (insert ls) r o g =
       then-jobs k (insert ls) r _ o (λ b h. check-jobs k (good b) (insert ls) (short-all ls) 7 _ (λ s. check-jobs k (good b) (insert ls) (leb (b .last) (length (k .text))) 4 _ (λ e. (let l = leb-true _ _ e in let m = lines-most ls in
-        text-job k few (good b) (insert ls) skip (b .last - 1) (b .last - 1) (length ls) _ (omega arith) (omega arith) (omega arith) (at-inserted (eqb (length ls) 0) (b .last) (length ls) (length (k .text)) l) refl (λ q. refl) refl s (omega arith)))))
+      text-job k few (good b) (insert ls) skip (b .last - 1) (b .last - 1) (length ls) _ (omega arith) (omega arith) (omega arith) (at-inserted (eqb (length ls) 0) (b .last) (length ls) (length (k .text)) l) refl (λ q. refl) refl s (omega arith)))))
     where
       at-inserted : (t : Bool) (b n count : ℕ) → b ≤ count → pick t b (b - 1 + n) ≤ count + n + 1
       at-inserted true b n count h = omega arith
       at-inserted false b n count h = omega arith
   deed-jobs (change ls) r o g =
       then-jobs k (change ls) r _ o (λ b h. check-jobs k (good b) (change ls) (short-all ls) 7 _ (λ s. check-jobs k (good b) (change ls) (there (length (k .text)) b) 4 _ (λ e. (let z = spans _ b e in let z₁ = z .one in let z₂ = z .order in let z₃ = z .there in let m = lines-most ls in
-        text-job k few (good b) (change ls) measure (b .first - 1) (b .last) (length ls) _ (omega arith) (z .there) (omega arith) (at-changed (eqb (length ls) 0) b (length ls) (length (k .text)) z₂ z₃) refl (λ q. absurd (true≢false q)) refl s (omega arith)))))
+      text-job k few (good b) (change ls) measure (b .first - 1) (b .last) (length ls) _ (omega arith) (z .there) (omega arith) (at-changed (eqb (length ls) 0) b (length ls) (length (k .text)) z₂ z₃) refl (λ q. absurd (true≢false q)) refl s (omega arith)))))
     where
       small : (x y : ℕ) → smaller x y ≤ x
       small x y = go (ltb x y) refl
@@ -320,12 +369,13 @@ module _ (k : Kept) (sound : Sound k) (few : length (directory k) ≤ 524288) wh
           go : (t : Bool) → ltb x y ≡ t → pick t x y ≤ x
           go true e = omega arith
           go false e = ltb-false x y e
+
       at-changed : (t : Bool) (b : Bounds) (n count : ℕ) → b .first ≤ b .last → b .last ≤ count → pick t (at-gone count b) (b .first - 1 + n) ≤ count + n + 1
       at-changed true b n count h l = let a = small (b .first) (count - (suc (b .last) - b .first)) in omega arith
       at-changed false b n count h l = omega arith
   deed-jobs delete r o g =
       then-jobs k delete r _ o (λ b h. check-jobs k (good b) delete (there (length (k .text)) b) 4 _ (λ e. (let z = spans _ b e in let z₁ = z .one in let z₂ = z .order in let z₃ = z .there in
-        gone-job k few (good b) delete (b .first - 1) (b .last) _ (omega arith) (z .there) (let a = smaller-first (b .first) (length (k .text) - (suc (b .last) - b .first)) in omega arith) refl (omega arith))))
+      gone-job k few (good b) delete (b .first - 1) (b .last) _ (omega arith) (z .there) (let a = smaller-first (b .first) (length (k .text) - (suc (b .last) - b .first)) in omega arith) refl (omega arith))))
     where
       smaller-first : (x y : ℕ) → smaller x y ≤ x
       smaller-first x y = go (ltb x y) refl
@@ -335,31 +385,31 @@ module _ (k : Kept) (sound : Sound k) (few : length (directory k) ≤ 524288) wh
           go false e = ltb-false x y e
   deed-jobs join r o g =
       then-jobs k join r _ o (λ b h. check-jobs k (good b) join (there (length (k .text)) b) 4 _ (λ e. (let z = spans _ b e in let z₁ = z .one in let z₂ = z .order in let z₃ = z .there in
-        let m = lines-most (turn.glued-lines (take (b .last - (b .first - 1)) (drop (b .first - 1) (k .text))) ∷ []) in
-        text-job k few (good b) join glue (b .first - 1) (b .last) 1 (b .first) (omega arith) (z .there) (omega arith) (omega arith) refl (λ q. absurd (true≢false q)) refl refl (omega arith))))
+      let m = lines-most (turn.glued-lines (take (b .last - (b .first - 1)) (drop (b .first - 1) (k .text))) ∷ []) in
+      text-job k few (good b) join glue (b .first - 1) (b .last) 1 (b .first) (omega arith) (z .there) (omega arith) (omega arith) refl (λ q. absurd (true≢false q)) refl refl (omega arith))))
   deed-jobs (move a) r o g = tt
   deed-jobs (copy a) r o g = tt
   deed-jobs (mark c) r o g = tt
   deed-jobs print r o g =
       then-jobs k print r _ o (λ b h. check-jobs k (good b) print (there (length (k .text)) b) 4 _ (λ e. (let z = spans _ b e in let z₁ = z .one in let z₂ = z .order in
-        show-job k few (good b) print show (b .first - 1) (b .last) refl refl refl (omega arith) (z .there) (omega arith))))
+      show-job k few (good b) print show (b .first - 1) (b .last) refl refl refl (omega arith) (z .there) (omega arith))))
   deed-jobs number r o g =
       then-jobs k number r _ o (λ b h. check-jobs k (good b) number (there (length (k .text)) b) 4 _ (λ e. (let z = spans _ b e in let z₁ = z .one in let z₂ = z .order in
-        show-job k few (good b) number show-numbered (b .first - 1) (b .last) refl refl refl (omega arith) (z .there) (omega arith))))
+      show-job k few (good b) number show-numbered (b .first - 1) (b .last) refl refl refl (omega arith) (z .there) (omega arith))))
   deed-jobs where-is r o g =
       then-jobs k where-is r _ o (λ b h. check-jobs k (good b) where-is (leb (b .last) (length (k .text))) 4 _ (λ e. (let l = leb-true _ _ e in let t = text-few k few in
-        say-job k few (good b) where-is (plan.a-number (b .last)) (omega arith) (sound .current) refl (omega arith))))
+      say-job k few (good b) where-is (plan.a-number (b .last)) (omega arith) (sound .current) refl (omega arith))))
   deed-jobs (swap p q i) r o g = tt
   deed-jobs go-to r o g =
       then-jobs k go-to r _ o (λ b h. check-jobs k (good b) go-to (leb 1 (b .last) && leb (b .last) (length (k .text))) 4 _ (λ e. (let p = and-parts (leb 1 (b .last)) (leb (b .last) (length (k .text))) e in let l = leb-true _ _ (p .0) in
-        show-job k few (good b) go-to show (b .last - 1) (b .last) refl refl refl (omega arith) (leb-true _ _ (p .1)) (omega arith))))
+      show-job k few (good b) go-to show (b .last - 1) (b .last) refl refl refl (omega arith) (leb-true _ _ (p .1)) (omega arith))))
   deed-jobs undo r o g = tt
   deed-jobs redo r o g = tt
   deed-jobs (save n) r o g =
       check-jobs k r (save n) (or (slot-in k n .found) (ltb (slot-in k n .place) 64)) 7 _ (λ t. then-jobs k (save n) r _ o (λ b h. check-jobs k (good b) (save n) (writable (length (k .text)) b) 4 _ (λ e.
-        (let z = written b h (or-parts _ _ e) in
-        save-job k few (good b) n (b .first - 1) (b .last) (sound .current) (z .0) (z .1)
-          (slot-place n (elim (or-parts _ _ t) [ inl u ↦ inl u | inr u ↦ inr (ltb-true _ _ u) ]) (looked n (k .files) 0 0)) (looked n (k .files) 0 0)))))
+      (let z = written b h (or-parts _ _ e) in
+      save-job k few (good b) n (b .first - 1) (b .last) (sound .current) (z .0) (z .1)
+      (slot-place n (elim (or-parts _ _ t) [ inl u ↦ inl u | inr u ↦ inr (ltb-true _ _ u) ]) (looked n (k .files) 0 0)) (looked n (k .files) 0 0)))))
     where
       written : (b : Bounds) → b .first ≤ suc (b .last) → (there (length (k .text)) b ≡ true) ⊎ (eqb (length (k .text)) 0 && eqb (b .last) 0 ≡ true) → (b .first - 1 ≤ b .last) × (b .last ≤ length (k .text))
       written b h (inl e) = let z = spans _ b e in (omega arith, z .there)

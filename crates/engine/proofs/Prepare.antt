@@ -64,8 +64,8 @@ module _ (codec : Codec) (R n : ℕ) {w : Plain} {t : List ℕ} (C : Course R w 
   go-on-leads x x₁ {d₁} {ss} {r₁} same able fits b o q =
       chosen (λ (y : Does). Leads codec R n C (after-did d₁ ss r₁ y)) (x₁ .carrying .waking) false (ends-done x₁) (start-pass false x₁) (same .waking)
       (let e : need x₁ ≡ need x = ap (λ (j : Job). suc (lines-records (j .lines))) (same .job) in
-       let o₁ : On-course codec R n C ss (more-rows (x₁ .job .plan .rows) (C .kept .files)) r₁ (2 * need x) = subst (λ (j : Job). On-course codec R n C ss (more-rows (j .plan .rows) (C .kept .files)) r₁ (2 * need x)) (sym (same .job)) o in
-       pass-leads codec R n C x₁ able held fits (brings-same same b) o₁ (omega arith) q)
+      let o₁ : On-course codec R n C ss (more-rows (x₁ .job .plan .rows) (C .kept .files)) r₁ (2 * need x) = subst (λ (j : Job). On-course codec R n C ss (more-rows (j .plan .rows) (C .kept .files)) r₁ (2 * need x)) (sym (same .job)) o in
+      pass-leads codec R n C x₁ able held fits (brings-same same b) o₁ (omega arith) q)
 
   can-stop : {ss more : List (List ℕ)} {r j : ℕ} → On-course codec R n C ss more r j → (d : Device) → ((cs : List ℕ) → Off-at R (stopped d cs) k) → Stop codec R n C d ss
   can-stop o d f = stops codec R n C k held light (record { leaves = λ cs. inl (f cs) }) o
@@ -80,12 +80,12 @@ module _ (codec : Codec) (R n : ℕ) {w : Plain} {t : List ℕ} (C : Course R w 
       let less = lines-few (directory k) in
       let weighs = directory-weighs k in
       let more : (r₁ : ℕ) → r₁ ≤ r + 130 + 6 * quota-of x → On-course codec R n C ss (more-rows (x .job .plan .rows) (C .kept .files)) r₁ (2 * need x) =
-            λ r₁ c. record { rows = o .rows; count = let a = o .count in omega arith } in
+      λ r₁ c. record { rows = o .rows; count = let a = o .count in omega arith } in
       begin-leads codec R _ _ ss k (can-stop o) (held .sound) x d (quota-of x) false r f (z .quota) h
       (λ x₁ d₁ r₁ c. go-on-leads x x₁ (c .same) (some x₁ d₁ r₁ c rooms long less weighs (z .source)) (c .fits) b (more r₁ (c .count)) q)
       (λ x₁ d₁ r₁ c. go-on-leads x x₁ (c .same)
-        (on-one (c .quiet) (let e : need x₁ ≡ need x = ap (λ (j : Job). suc (lines-records (j .lines))) (c .same .job) in let a = c .used in let g = z .room in let l = rooms .above in let m = rooms .enough in omega arith))
-        (c .fits) b (more r₁ (c .count)) q)
+      (on-one (c .quiet) (let e : need x₁ ≡ need x = ap (λ (j : Job). suc (lines-records (j .lines))) (c .same .job) in let a = c .used in let g = z .room in let l = rooms .above in let m = rooms .enough in omega arith))
+      (c .fits) b (more r₁ (c .count)) q)
     where
       some : (x₁ : House) (d₁ : Device) (r₁ : ℕ) → Some-begun codec R true k (quota-of x) false r x x₁ d₁ r₁ → Rooms R (threshold R) → length (x .store .dir) ≡ length (directory k) →
           length (directory k) ≤ lines-records (directory k) → 64 * lines-records (directory k) ≤ kept-weight k → From x → Able codec R d₁ x₁ k
@@ -99,8 +99,8 @@ module _ (codec : Codec) (R n : ℕ) {w : Plain} {t : List ℕ} (C : Course R w 
           let ne : need x₁ ≡ need x = ap (λ (j : Job). suc (lines-records (j .lines))) (same .job) in
           let ge : x₁ .job .plan .splice .gone ≡ x .job .plan .splice .gone = ap (λ (j : Job). j .plan .splice .gone) (same .job) in
           on-both s 0 (length (x .store .dir)) (c .busy) (subst (λ (j : Job). Only-new (j .plan .splice .source) (j .lines)) (sym (same .job)) only)
-            (record { old = let a = c .used in omega arith; new = let a = c .shares in omega (arith, v₁); slow = omega (arith, long, less, weighs, light) })
-            (let a = c .waits in omega (arith, w₁, e)) (let a = z .few in omega (arith, ne)) (omega (arith, ge))
+          (record { old = let a = c .used in omega arith; new = let a = c .shares in omega (arith, v₁); slow = omega (arith, long, less, weighs, light) })
+          (let a = c .waits in omega (arith, w₁, e)) (let a = z .few in omega (arith, ne)) (omega (arith, ge))
 
   -- entries are being carried already
   carried-leads : (x : House) {d : Device} {ss : List (List ℕ)} {r S : ℕ} → Busy codec R true d x k →
@@ -113,22 +113,33 @@ module _ (codec : Codec) (R n : ℕ) {w : Plain} {t : List ℕ} (C : Course R w 
       let x₀ : House = with-quota (quota-of x) false x in
       let f₀ : Fits x₀ = record { tapes = f .tapes; store = f .store; job = f .job; walking = f .walking; putting = f .putting; carrying = record { index = omega arith; part = omega arith; long = omega arith; start = omega arith; quota = z .quota } } in
       let h₀ : Busy codec R true d x₀ k = record {
-            powered = record {
-              machine-room = h .powered .machine-room; device-room = h .powered .device-room; enough = h .powered .enough; at-most = h .powered .at-most; light = h .powered .light;
-              small = h .powered .small; other-fits = h .powered .other-fits; used-fits = h .powered .used-fits };
-            is-busy = h .is-busy; log = h .log; behind = h .behind; cursor = h .cursor } in
+        powered = record {
+          machine-room = h .powered .machine-room;
+          device-room = h .powered .device-room;
+          enough = h .powered .enough;
+          at-most = h .powered .at-most;
+          light = h .powered .light;
+          small = h .powered .small;
+          other-fits = h .powered .other-fits;
+          used-fits = h .powered .used-fits;
+        };
+        is-busy = h .is-busy;
+        log = h .log;
+        behind = h .behind;
+        cursor = h .cursor;
+      } in
       let long : length (x .store .dir) ≡ length (directory k) = alike-length (h .log .compacting .holds) ∙ length-map (directory k) _ in
       let both = records-both (sides-apart (h .log .layout .sides)) (either-lies (h .log .compacting .holds)) (directory k) long in
       let weighs = directory-weighs k in
       let more : (r₁ : ℕ) → r₁ ≤ r + 6 * quota-of x → On-course codec R n C ss (more-rows (x .job .plan .rows) (C .kept .files)) r₁ (2 * need x) =
-            λ r₁ a. record { rows = o .rows; count = let e = o .count in omega arith } in
+      λ r₁ a. record { rows = o .rows; count = let e = o .count in omega arith } in
       carry-leads codec R _ _ ss k (can-stop o) (held .sound) x₀ d r f₀ h₀ (let a = c .new in let e = c .slow in let g = rooms .enough in omega (arith, both, weighs, light))
       (λ x₁ d₁ r₁ a. go-on-leads x x₁ (as-before (a .same)) (some x₁ d₁ r₁ a (z .source)) (a .fits) b (more r₁ (a .count)) q)
       (λ x₁ d₁ r₁ a. go-on-leads x x₁ (as-before (a .same))
-        (on-one (a .quiet)
-          (let e : need x₁ ≡ need x = ap (λ (j : Job). suc (lines-records (j .lines))) (a .same .job) in
-           let u = a .used in let g = z .room in let l = rooms .above in let m = rooms .enough in let i = c .new in let j = c .slow in omega (arith, both)))
-        (a .fits) b (more r₁ (a .count)) q)
+      (on-one (a .quiet)
+      (let e : need x₁ ≡ need x = ap (λ (j : Job). suc (lines-records (j .lines))) (a .same .job) in
+      let u = a .used in let g = z .room in let l = rooms .above in let m = rooms .enough in let i = c .new in let j = c .slow in omega (arith, both)))
+      (a .fits) b (more r₁ (a .count)) q)
     where
       as-before : {x₁ : House} → Untouched false (with-quota (quota-of x) false x) x₁ → Untouched false x x₁
       as-before a = record { room = a .room; small = a .small; pending = a .pending; job = a .job; walking = a .walking; putting = a .putting; waking = a .waking }
@@ -144,8 +155,8 @@ module _ (codec : Codec) (R n : ℕ) {w : Plain} {t : List ℕ} (C : Course R w 
           let ne : need x₁ ≡ need x = ap (λ (j : Job). suc (lines-records (j .lines))) (same .job) in
           let ge : x₁ .job .plan .splice .gone ≡ x .job .plan .splice .gone = ap (λ (j : Job). j .plan .splice .gone) (same .job) in
           on-both s S (waiting (x .tapes .active) (x .store .dir)) (a .busy) (subst (λ (j : Job). Only-new (j .plan .splice .source) (j .lines)) (sym (same .job)) only)
-            (record { old = let u = a .used in let i = c .old in omega arith; new = let u = a .shares in let i = c .new in omega (arith, v₁); slow = c .slow })
-            (let u = a .waits in omega (arith, w₁, e)) (let u = z .few in omega (arith, ne)) (omega (arith, ge))
+          (record { old = let u = a .used in let i = c .old in omega arith; new = let u = a .shares in let i = c .new in omega (arith, v₁); slow = c .slow })
+          (let u = a .waits in omega (arith, w₁, e)) (let u = z .few in omega (arith, ne)) (omega (arith, ge))
 
   -- AT THE DECISION
   pub prepare-leads : (x : House) {d : Device} {ss : List (List ℕ)} {r : ℕ} → Rest codec R d x k → Fits x → Sized R k x → Bringing k (C .kept) (x .job .lines) (x .job .plan .splice) (news-of x) →
@@ -158,7 +169,7 @@ module _ (codec : Codec) (R n : ℕ) {w : Plain} {t : List ℕ} (C : Course R w 
       (elim (cases-bool (ltb (threshold (x .tapes .room)) (x .tapes .used + need x))) [
         | inl e ↦ chosen (λ (y : Does). Leads codec R n C (after-did d ss r y)) (ltb (threshold (x .tapes .room)) (x .tapes .used + need x)) true _ _ e (begun-leads x h u f z b o q)
         | inr e ↦ chosen (λ (y : Does). Leads codec R n C (after-did d ss r y)) (ltb (threshold (x .tapes .room)) (x .tapes .used + need x)) false _ _ e
-          (let l = ltb-false (threshold (x .tapes .room)) (x .tapes .used + need x) e in
-           let g : threshold (x .tapes .room) ≡ threshold R = ap threshold m in
-           pass-leads codec R n C x (on-one h (omega arith)) held f b o (omega arith) q)
+            (let l = ltb-false (threshold (x .tapes .room)) (x .tapes .used + need x) e in
+            let g : threshold (x .tapes .room) ≡ threshold R = ap threshold m in
+            pass-leads codec R n C x (on-one h (omega arith)) held f b o (omega arith) q)
       ])

@@ -59,8 +59,8 @@ address-named : (count at : ℕ) (a : Address) → Named (resolve-plain count at
 unfolding resolve-plain
 address-named count at a =
     then-named (base-plain count at a) (counted count a)
-      (pick-named (eqb (a .kind) 0) (good at) _ tt (pick-named (eqb (a .kind) 1) (good count) _ tt (pick-named (eqb (a .kind) 2) (good (a .number)) (refused 2) tt refl)))
-      (λ m. check-named (leb (a .back) (m + a .on) && leb (m + a .on - a .back) count) 4 (good (m + a .on - a .back)) refl tt)
+    (pick-named (eqb (a .kind) 0) (good at) _ tt (pick-named (eqb (a .kind) 1) (good count) _ tt (pick-named (eqb (a .kind) 2) (good (a .number)) (refused 2) tt refl)))
+    (λ m. check-named (leb (a .back) (m + a .on) && leb (m + a .on - a .back) count) 4 (good (m + a .on - a .back)) refl tt)
 
 order-named : (a b : ℕ) → Named (in-order a b)
 order-named a b = check-named (leb a b) 4 (good (bounds a b)) refl tt
@@ -72,16 +72,20 @@ range-named count at r b =
     (pick-named (eqb (r .kind) 1) (then (resolve-plain count at (r .first)) one) _ (then-named (resolve-plain count at (r .first)) one (address-named count at (r .first)) (λ m. tt))
     (pick-named (eqb (r .kind) 2) (then (resolve-plain count at (r .first)) comma) _ (then-named (resolve-plain count at (r .first)) comma (address-named count at (r .first)) (λ m. second m at))
     (pick-named (eqb (r .kind) 3) (then (resolve-plain count at (r .first)) semicolon) (good (bounds 1 count)) (then-named (resolve-plain count at (r .first)) semicolon (address-named count at (r .first)) (λ m. second m m))
-      tt)))
+    tt)))
   where
     one : ℕ → Checked Bounds
     one m = good (bounds m m)
+
     to-second : ℕ → ℕ → Checked Bounds
     to-second m here = then (resolve-plain count here (r .second)) (λ i. in-order m i)
+
     comma : ℕ → Checked Bounds
     comma m = to-second m at
+
     semicolon : ℕ → Checked Bounds
     semicolon m = to-second m m
+
     second : (m here : ℕ) → Named (to-second m here)
     second m here = then-named (resolve-plain count here (r .second)) (λ i. in-order m i) (address-named count here (r .second)) (λ i. order-named m i)
 
@@ -104,7 +108,7 @@ deed-named s f g r undo h = refl
 deed-named s f g r redo h = refl
 deed-named s f g r (save n) h =
     check-named (or (f .found) (ltb (f .place) 64)) 7 (then r (λ b. check (plan.writable (s .count) b) 4 (good (plan.file-plan s f (b .first - 1) (b .last))))) refl
-      (then-named r (λ b. check (plan.writable (s .count) b) 4 (good (plan.file-plan s f (b .first - 1) (b .last)))) h (λ b. check-named (plan.writable (s .count) b) 4 (good (plan.file-plan s f (b .first - 1) (b .last))) refl tt))
+    (then-named r (λ b. check (plan.writable (s .count) b) 4 (good (plan.file-plan s f (b .first - 1) (b .last)))) h (λ b. check-named (plan.writable (s .count) b) 4 (good (plan.file-plan s f (b .first - 1) (b .last))) refl tt))
 deed-named s f g r (edit n) h = check-named (f .found) 3 (good (plan.edit-plan s f)) refl tt
 deed-named s f g r (load n) h = refl
 deed-named s f g r files h = tt
@@ -115,7 +119,7 @@ unfolding decide
 decision-named k c =
     let r = command-bounds (length (k .text)) (k .at) c in
     check-named (known c) 2 (decide-deed (sizes-of k) (slot-in k (name-given (c .deed))) (given-of (c .deed)) r (c .deed)) refl
-      (deed-named (sizes-of k) (slot-in k (name-given (c .deed))) (given-of (c .deed)) r (c .deed) (range-named (length (k .text)) (k .at) (c .range) (default-bounds (length (k .text)) (k .at) (c .deed))))
+    (deed-named (sizes-of k) (slot-in k (name-given (c .deed))) (given-of (c .deed)) r (c .deed) (range-named (length (k .text)) (k .at) (c .range) (default-bounds (length (k .text)) (k .at) (c .deed))))
 
 -- A COMMAND
 module _ (codec : Codec) (R n : ℕ) (most : R ≤ 1048576) (w : Plain) (k : Kept) (t : List ℕ) (held : Held w k) (light : kept-weight k ≤ 32 * R) (x : House) (d : Device) (rest : Rest codec R d x k) (fits : Fits x) where
@@ -161,6 +165,6 @@ pub engine-whole : (codec : Codec) (e : Engine) (Rep : List ℕ → House → Ty
 unfolding Begins-alike
 engine-whole codec e Rep keeps steady =
     whole core (λ R n. Off R n) e
-      (λ R. Idle-kept (May core R) machine e Rep keeps (Off R) (λ n x d w. Idle codec R n x d w)) steady
-      (λ R low most. sound-engine (May core R) machine e Rep keeps (Off R) (λ n x d w. Idle codec R n x d w) (sound codec R low most))
-      (λ R n low most few. off-first R n begins-alike)
+    (λ R. Idle-kept (May core R) machine e Rep keeps (Off R) (λ n x d w. Idle codec R n x d w)) steady
+    (λ R low most. sound-engine (May core R) machine e Rep keeps (Off R) (λ n x d w. Idle codec R n x d w) (sound codec R low most))
+    (λ R n low most few. off-first R n begins-alike)

@@ -84,6 +84,7 @@ last-word r m e = go (ltb (length r) 64) e
   where
     at-end : (xs : List ℕ) → words (xs ++ m ∷ []) ≡ true → Word m
     at-end xs f = ltb-true m 4294967296 (every-in (λ z. ltb z 4294967296) m (xs ++ m ∷ []) f (in-right m xs (m ∷ []) (inl refl)))
+
     go : (b : Bool) → words (pick b (r ++ m ∷ []) (drop 1 r ++ m ∷ [])) ≡ true → Word m
     go true f = at-end r f
     go false f = at-end (drop 1 r) f
@@ -95,8 +96,11 @@ also-fits (slot m z) s f i = (i m z refl, every-in entry-fits z (take m (s .file
 
 news-fits : (u : News) (s : Small) → Small-fits (updated u s) → ((i : ℕ) (z : Entry) → u .also ≡ slot i z → Word i) → News-fits u
 news-fits u s f i = record {
-  count = f .count; current = f .current; weight = f .weight;
-  also = also-fits (u .also) s (record { count = omega arith; current = omega arith; weight = omega arith; ring-few = f .ring-few; ring = f .ring; files-few = f .files-few; files = f .files }) i }
+  count = f .count;
+  current = f .current;
+  weight = f .weight;
+  also = also-fits (u .also) s (record { count = omega arith; current = omega arith; weight = omega arith; ring-few = f .ring-few; ring = f .ring; files-few = f .files-few; files = f .files }) i;
+}
 
 slot-word : (q : Update) (s : Small) (p : Plan) (a b : ℕ) (n : List ℕ) → Update-fits q → (i : ℕ) (z : Entry) → news-by q s p a b n .also ≡ slot i z → Word i
 unfolding news-by
@@ -152,10 +156,12 @@ module _ (R : ℕ) (most : R ≤ 1048576) (k : Kept) (sound : Sound k) (light : 
       from : Sourced p (new-lines-of k p (lines-given d)) → quota-of x ≡ quota-by (p .splice .source) (size-of p) → job-size x ≡ size-of p → x .job .plan .splice .gone ≡ p .splice .gone → From x
       from (of-new only e g) qe se ge = from-new (subst (λ (y : Job). Only-new (y .plan .splice .source) (y .lines)) (sym j) only) (qe ∙ e ∙ ap (λ z. 16 * z) (sym se)) (omega arith)
       from (of-copies e) qe se ge = from-copies (qe ∙ e)
+
       heavy : (64 * (lines-records (directory k) + lines-records (new-lines-of k p (lines-given d))) ≤ kept-weight (kept-after k p d)) ⊎ (new-lines-of k p (lines-given d) ≡ []) →
           64 * (lines-records (directory k) + lines-records (new-lines-of k p (lines-given d))) ≤ 32 * R
       heavy (inl h) = omega arith
       heavy (inr e) = let a = directory-weighs k in let b : lines-records (new-lines-of k p (lines-given d)) ≡ 0 = ap lines-records e in omega arith
+
       word : Sourced p (new-lines-of k p (lines-given d)) → quota-of x ≡ quota-by (p .splice .source) (size-of p) → p .came ≤ 1048576 → p .upto ≤ p .after + 1048576 → Word (quota-of x)
       word (of-new only e g) qe ca sp = omega (arith, qe, e)
       word (of-copies e) qe ca sp = omega (arith, qe, e)

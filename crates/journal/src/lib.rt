@@ -35,7 +35,8 @@ pub fn counting(first: u32, second: u32) -> Option<Tape>
         (0, 0) => None,
         (_, 0) => Some(Tape::First),
         (0, _) => Some(Tape::Second),
-        _ => Some(if follows(second, first) { Tape::First } else { Tape::Second }),
+        _ if follows(second, first) => Some(Tape::First),
+        _ => Some(Tape::Second),
     }
 }
 

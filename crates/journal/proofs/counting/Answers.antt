@@ -14,10 +14,10 @@ pub returns-in-rest-eq0 : need.returns-in-rest-eq0
 unfolding choose
 returns-in-rest-eq0 c = search needs
 
-pub returns-then-follows : need.returns-then-follows
+pub returns-in-rest : need.returns-in-rest
 unfolding choose
-returns-then-follows c = search needs
+returns-in-rest c = search needs
 
-pub returns-else-follows : need.returns-else-follows
+pub returns-in-rest-2 : need.returns-in-rest-2
 unfolding choose
-returns-else-follows c = search needs
+returns-in-rest-2 c = search needs
