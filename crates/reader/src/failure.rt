@@ -70,7 +70,7 @@ fn lettered(front: &[u8], scratch: &mut Vec<u8>) -> Result<bool, AllocError>
     )
 }
 
-/// Whether a command begins with these bytes: if one does, one of these endings makes it whole.
+/// Whether one of these endings makes a command of these bytes. They are chosen so that one does wherever a command begins so, which is argued and not proved.
 fn begins(front: &[u8], scratch: &mut Vec<u8>) -> Result<bool, AllocError>
     ensures { λ r. ⌜ made r (λ b. b ≡ begins (now (front .entry))) ⌝ }
 {
