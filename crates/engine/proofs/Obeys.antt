@@ -261,12 +261,12 @@ module _ (codec : Codec) (R n : ℕ) (most : R ≤ 1048576) (w : Plain) (k : Kep
             store = fits .store;
             job = record { plan = P .fits; name = leb-true _ _ (nm .0); name-bytes = nm .1; size = omega (arith, se, sl) };
             walking = record { line = P .fits .after; part = omega arith; went = omega (arith, wf, ww); bytes-few = omega arith; bytes = refl };
-            putting = fits .putting;
+            putting = record { part = omega arith };
             carrying = fits .carrying;
           }
 
       rest₀ : Rest codec R d x₀ k
-      rest₀ = rest-as codec (x .phase) (x₀ .job) (x₀ .walking) (x .putting) (x .carrying) rest
+      rest₀ = rest-as codec (x .phase) (x₀ .job) (x₀ .walking) (x₀ .putting) (x .carrying) rest
 
       job-is : new-lines-of k p (lines-given (c .deed)) ≡ lines-given (c .deed) → x₀ .job ≡ job-for k (c .deed) p
       job-is q = let z = ap (λ y. y .size) (slot-same k c x s) in let l = sym q in λ i. record { plan = p; name = name-given (c .deed); size = z i; lines = l i }

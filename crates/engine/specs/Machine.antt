@@ -312,7 +312,7 @@ went-at-once p s = pick (walks (p .walk)) 0 (pick (ltb (p .after) (p .upto)) (s 
 abbrev pub start-job : Simple → ℕ → Plan → House → House
 start-job c size p x =
     with-job (record { plan = p; name = name-given (c .deed); size = size; lines = lines-given (c .deed) })
-    (with-walking (walking-of (p .after) 0 (went-at-once p (x .store .small)) []) x)
+    (with-walking (walking-of (p .after) 0 (went-at-once p (x .store .small)) []) (with-putting (putting-of false [] 0) x))
 
 abbrev pub do-plan : Update → House → Does
 do-plan same-as-before x = finish x
