@@ -17,7 +17,7 @@ use Rattle.journal.specs.Small.{updated, no-state}
 use Rattle.records.specs.Pages.{record-of}
 use Rattle.journal.specs.Machine.{did}
 use Rattle.journal.proofs.Machine.{going, Goes, after-did}
-use Rattle.journal.proofs.Contents.{layout-new-is}
+use Rattle.journal.proofs.Contents.{layout-new-is, sides-turn}
 use Rattle.journal.proofs.Lifecycle as lifecycle
 use Rattle.journal.proofs.Generations.{cycle-next}
 use Rattle.journal.proofs.Waiting.{waiting-set, Behind, behind-set}
@@ -29,7 +29,7 @@ use Rattle.engine.specs.Packing.{records-of, packed, records-on}
 use Rattle.engine.specs.Machine.{machine, entry-of, go-on, carry, carry-entry, next-entry, switch}
 use Rattle.engine.proofs.Facts.{Codec, Off-at, Quiet, lines-of-kept}
 use Rattle.engine.proofs.Course.{go-next, asks, fastens, begins, chosen}
-use Rattle.engine.proofs.Devices.{cycle-bounds, firm-off, firm-fasten, side-first, side-second, sides-apart, sides-turn, sides-is, all-room, anew-here, anew-room, fastened-room}
+use Rattle.engine.proofs.Devices.{cycle-bounds, firm-off, firm-fasten, side-first, side-second, sides-apart, sides-is, all-room, anew-here, anew-room, fastened-room}
 use Rattle.engine.proofs.Pieces.{records-few, line-of, packs-at, packed-at, packed-long, line-fits, directory-fits, copies-are, copy-pages, length-copy-pages}
 use Rattle.engine.proofs.Shares.{records-on-gone, records-on-came, records-on-none}
 use Rattle.engine.proofs.CompactFacts.{Busy-at, busy-firm, busy-other, busy-long, Next-entry, next-entry-is, positions-set, fits-phase, Some-carried-at, All-carried, quiet-firm, quiet-at}

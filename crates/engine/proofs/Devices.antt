@@ -36,10 +36,6 @@ pub sides-apart : {x y : ℕ} → Sides x y → y ≡ x → ⊥
 sides-apart ahead e = omega arith
 sides-apart back e = omega arith
 
-pub sides-turn : {x y : ℕ} → Sides x y → Sides y x
-sides-turn ahead = back
-sides-turn back = ahead
-
 pub sides-is : {x y : ℕ} → Sides x y → 1 - x ≡ y
 sides-is ahead = refl
 sides-is back = refl

@@ -29,7 +29,6 @@ pub mod Plans
 pub mod Fetching
 pub mod Walking
 pub mod Joining
-pub mod Given
 pub mod Kepts
 pub mod Weighing
 pub mod Obeys

@@ -24,10 +24,10 @@ use Rattle.commands.specs.Plan.{sizes, look-up, decide, Plan, Walk, skip, show,
 use Rattle.commands.specs.Turn as turn
 use Rattle.commands.specs.Turn.{Kept-turn, kept-no, kept-turn, kept-does, carried-out, within-room, room-turn, lines-given, name-given, given-of, slot-in, walked, walk-rows, more-rows, new-lines-of, kept-after, rows-of}
 use Rattle.commands.specs.Smalls.{smalls-of}
-use Rattle.commands.specs.Held.{Held, As-planned, Plans-stand, Reads-well, span-of, grant, typed-turn, well-given}
+use Rattle.commands.specs.Held.{Held, As-planned, Plans-stand, Reads-well, Reads-few, span-of, grant, typed-turn, well-given}
 use Rattle.commands.proofs.Files.{There, Missing, looked}
 use Rattle.commands.proofs.Planned.{plans-stand}
-use Rattle.commands.proofs.Readings.{reads-well, reads-one}
+use Rattle.commands.proofs.Readings.{reads-well, reads-one, reads-few}
 use Rattle.commands.proofs.Typed.{no-turn}
 use Rattle.engine.specs.State.{House, Phase, Job, Walking, idle}
 use Rattle.engine.specs.Fits.{Fits}
@@ -45,7 +45,6 @@ use Rattle.engine.proofs.Kepts.{directory-few}
 use Rattle.engine.proofs.Plans.{Job-plan, job-plan, size-of, cost, limit, shown-by, shows-lines}
 use Rattle.engine.proofs.Prepare.{prepare-leads}
 use Rattle.engine.proofs.Weighing.{refuse-leads, job-for, room-same, brings, sized}
-use Rattle.engine.proofs.Given.{reads-few}
 
 -- THE TURN of a command that can be planned: how it comes out
 pub data Outcome (R : ℕ) (k : Kept) (d : Deed) (p : Plan) (u : Kept-turn) : Type 0 where
@@ -179,8 +178,12 @@ module _ (codec : Codec) (R n : ℕ) (most : R ≤ 1048576) (w : Plain) (k : Kep
     unfolding Plans-stand
     A = plans-stand k c p dp
 
+    given-few : length (lines-given (c .deed)) ≤ 65535
+    unfolding Reads-few
+    given-few = let a = reads-few t (plain c) e in let b = a .0 in let l = a .1 in omega arith
+
     P : Job-plan k (command-bounds (length (k .text)) (k .at) c) (c .deed) p
-    P = job-plan k (held .sound) (directory-few R k light most) c p (reads-few t c e) dp
+    P = job-plan k (held .sound) (directory-few R k light most) c p given-few dp
 
     turn-is : turn-then R w k t held light ≡ within-room R k (carried-out k p (c .deed))
     unfolding kept-turn
@@ -229,10 +232,10 @@ module _ (codec : Codec) (R n : ℕ) (most : R ≤ 1048576) (w : Plain) (k : Kep
 
     new-few : (v : Walk) → length (turn.put-lines v (walked k p) (lines-given (c .deed))) ≤ 65536
     unfolding turn.put-lines
-    new-few skip = let a = reads-few t c e in omega arith
-    new-few show = let a = reads-few t c e in omega arith
-    new-few show-numbered = let a = reads-few t c e in omega arith
-    new-few measure = let a = reads-few t c e in omega arith
+    new-few skip = let a = given-few in omega arith
+    new-few show = let a = given-few in omega arith
+    new-few show-numbered = let a = given-few in omega arith
+    new-few measure = let a = given-few in omega arith
     new-few glue = omega arith
 
     module _ (x : House) (d : Device) (rest : Rest codec R d x k) (fits : Fits x) where

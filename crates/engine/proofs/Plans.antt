@@ -86,9 +86,6 @@ All-jobs k r d (good p) = Job-plan k r d p
 All-jobs k r d (refused n) = Unit {0}
 
 -- A LIST of at most so many lines
-new-few : (ls : List (List ℕ)) → lines-records ls ≤ 3 * length ls
-new-few = lines-most
-
 check-jobs : (k : Kept) (r : Checked Bounds) (d : Deed) (t : Bool) (n : ℕ) (x : Checked Plan) → (t ≡ true → All-jobs k r d x) → All-jobs k r d (check t n x)
 check-jobs k r d true n x h = h refl
 check-jobs k r d false n x h = tt
