@@ -86,7 +86,7 @@ room-kept records k k₁ h e =
     ]
 
 -- a turn that leaves another weight was done
-done-turn : (w : Plain) (c : Command) → weight w < weight (turn w c .next) → turn w c .reply ≡ 0
+pub done-turn : (w : Plain) (c : Command) → weight w < weight (turn w c .next) → turn w c .reply ≡ 0
 unfolding All-or-none
 done-turn w c h =
     elim (cases-lt 0 (turn w c .reply)) [

@@ -1,4 +1,4 @@
--- What is kept beside the plain house: the same lines, files and weights. Assumes nothing: these are definitions, and statements whose proof is owed.
+-- What is kept beside the plain house: the same lines, files and weights. Assumes nothing: these are definitions, and statements that are contracts of functions of this crate.
 use mathlib.Core.Path.{_≡_}
 use mathlib.Core.Bool.{Bool, true, false, _&&_, not}
 use mathlib.Core.List.{List, [], _∷_, _++_, reverse}

@@ -131,7 +131,7 @@ fn change(sizes: Sizes, lines: Lines<'_>, bounds: Bounds) -> Result<Plan, Refusa
     requires { ⌜ length (lines-in lines) < 4294967296 ⌝ }
     ensures { λ r. ⌜ checked-by plan-as r ≡ decide-change (sizes-as sizes) (given-in (lines .entry)) (bounds-as bounds) ⌝ }
 {
-    let Some(many) = short_lines(lines) else {
+    let Some(new) = short_lines(lines) else {
         return Err(Refusal::TooLarge);
     };
     let Some(span) = real_lines(sizes.count, bounds) else {
@@ -139,11 +139,11 @@ fn change(sizes: Sizes, lines: Lines<'_>, bounds: Bounds) -> Result<Plan, Refusa
     };
     let coming = Coming {
         source: Source::Given,
-        many,
+        many: new,
     };
-    let current = match many {
+    let current = match new {
         0 => after_gone(sizes.count, bounds),
-        _ => span.after + many,
+        _ => span.after + new,
     };
     Ok(replace(sizes, Walk::Measure, span, coming, current, Rows::Nothing))
 }

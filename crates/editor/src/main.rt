@@ -26,7 +26,8 @@ Commands are read from standard input, one a line:
   d j        delete a range; join it to one line
   p n =      show a range; with numbers; show a line's number
   w e f      write a range to a file of the house, edit one, list them
-An address alone shows that line. What can't be done is refused by a number.
+An address alone shows that line. What can't be done is refused by a number:
+1 what can't be read, 2 what isn't known yet, which today is all of these.
 ";
 
 /// Runs the editor as the arguments say.

@@ -8,6 +8,7 @@ use lib.ListN.{length}
 use Rattle.plain.specs.Pattern.{every, all-bytes}
 use Rattle.journal.specs.Log.{Position, Source, no-entries, new-entries, copied, Splice, Rec, head, line, copy, commit, broken, Piece, State}
 use Rattle.journal.specs.Small.{Entry, Small, Also, nothing-else, push, slot, News}
+use Rattle.records.specs.Lines.{share}
 use Rattle.commands.specs.Plan.{Plan, Update, same-as-before, current-only, the-text, the-file, Rows, no-row, a-number, all-files}
 use Rattle.engine.specs.State.{Tapes, Job, Walking, Putting, Carrying, House}
 
@@ -58,15 +59,15 @@ pub record News-fits (u : News) : Type 0 where
   pub weight : Word (u .weight)
   pub also : Also-fits (u .also)
 
-pub record Piece-fits (b : Piece) : Type 0 where
+pub record Piece-fits (j : ℕ) (b : Piece) : Type 0 where
   pub long : b .long ≤ 1024
-  pub short : length (b .bytes) ≤ 503
+  pub here : length (b .bytes) ≡ share (b .long) j
   pub bytes : all-bytes (b .bytes) ≡ true
 
 abbrev pub Record-fits : Rec News → Type 0
 Record-fits (head g n) = (1 ≤ g) × (g ≤ 3) × Word n
-Record-fits (line j b) = (j ≤ 2) × Piece-fits b
-Record-fits (copy i j b) = Word i × (j ≤ 2) × Piece-fits b
+Record-fits (line j b) = (j ≤ 2) × Piece-fits j b
+Record-fits (copy i j b) = Word i × (j ≤ 2) × Piece-fits j b
 Record-fits (commit c u) = Splice-fits c × News-fits u
 Record-fits broken = ⊥
 

@@ -50,8 +50,8 @@ with-index i c = carrying-of i (c .part) (c .long) (c .start) (c .quota) (c .wak
 abbrev pub show-files : ℕ → House → Does
 show-files i x =
     pick (ltb i (length (x .store .small .files)))
-        (did (at-phase file-shown (with-carrying (with-index i (x .carrying)) x)) (shows (file-row (getD (x .store .small .files) i no-entry))))
-        (ends-done x)
+    (did (at-phase file-shown (with-carrying (with-index i (x .carrying)) x)) (shows (file-row (getD (x .store .small .files) i no-entry))))
+    (ends-done x)
 
 -- the last row of a command that is done
 abbrev pub finish-row : Rows → House → Does
@@ -78,7 +78,7 @@ came-weight (copied a b) u ls went size = copied-weight u went size
 abbrev pub news-of : House → News
 news-of x =
     news-by (x .job .plan .update) (x .store .small) (x .job .plan) (x .walking .went)
-        (came-weight (x .job .plan .splice .source) (x .job .plan .update) (x .job .lines) (x .walking .went) (x .job .size)) (x .job .name)
+    (came-weight (x .job .plan .splice .source) (x .job .plan .update) (x .job .lines) (x .walking .went) (x .job .size)) (x .job .name)
 
 abbrev pub commit-of : House → Rec News
 commit-of x = commit (x .job .plan .splice) (news-of x)
@@ -111,12 +111,12 @@ cursor-then x = cursor-after (x .tapes .cursor) (x .job .plan .splice .from) (x 
 abbrev pub put-commit : House → Does
 put-commit x =
     did (at-phase commit-put (pick (last-target x) (with-store (applied x) (with-tapes (with-cursor (cursor-then x) (target-longer x)) x)) (with-tapes (target-longer x) x)))
-        (put-on (target x) (page-of (commit-of x)))
+    (put-on (target x) (page-of (commit-of x)))
 
 abbrev pub put-piece : List ℕ → House → Does
 put-piece l x =
     did (at-phase line-put (with-store (after updated (target x) (target-used x) (x .store) (line (x .putting .part) (piece-of l (x .putting .part)))) (with-tapes (target-longer x) x)))
-        (put-on (target x) (page-of (line (x .putting .part) (piece-of l (x .putting .part)))))
+    (put-on (target x) (page-of (line (x .putting .part) (piece-of l (x .putting .part)))))
 
 abbrev pub put-first : List (List ℕ) → House → Does
 put-first [] x = put-commit x
@@ -133,8 +133,8 @@ abbrev pub after-line : List (List ℕ) → House → Does
 after-line [] x = put-next x
 after-line (l ∷ ls) x =
     put-next (with-putting (pick (ltb (suc (x .putting .part)) (records-of (length l)))
-        (putting-of (x .putting .second) (l ∷ ls) (suc (x .putting .part)))
-        (putting-of (x .putting .second) ls 0)) x)
+    (putting-of (x .putting .second) (l ∷ ls) (suc (x .putting .part)))
+    (putting-of (x .putting .second) ls 0)) x)
 
 abbrev pub after-commit : House → Does
 after-commit x = pick (x .putting .second) (finish x) (did (at-phase commit-fast x) (fasten (x .tapes .active)))
@@ -157,8 +157,8 @@ next-entry x = next-on (x .tapes .active) (x .tapes .cursor) (drop (x .tapes .cu
 abbrev pub carry-entry : ℕ → House → Does
 carry-entry i x =
     pick (ltb i (length (x .store .dir)))
-        (did (at-phase carry-read (with-carrying (carrying-of i 0 0 (x .tapes .other) (x .carrying .quota) (x .carrying .waking)) x)) (read (entry-of x i .tape) (entry-of x i .at)))
-        (did (at-phase compact-fast x) (fasten (passive x)))
+    (did (at-phase carry-read (with-carrying (carrying-of i 0 0 (x .tapes .other) (x .carrying .quota) (x .carrying .waking)) x)) (read (entry-of x i .tape) (entry-of x i .at)))
+    (did (at-phase compact-fast x) (fasten (passive x)))
 
 abbrev pub carry : House → Does
 carry x = pick (eqb (x .carrying .quota) 0) (go-on x) (carry-entry (next-entry x) x)
@@ -166,8 +166,8 @@ carry x = pick (eqb (x .carrying .quota) 0) (go-on x) (carry-entry (next-entry x
 abbrev pub carry-piece : Piece → House → Does
 carry-piece b x =
     did (at-phase carry-put (with-carrying (carrying-of (x .carrying .index) (x .carrying .part) (b .long) (x .carrying .start) (x .carrying .quota) (x .carrying .waking))
-        (with-tapes (with-other (suc (x .tapes .other)) (x .tapes)) x)))
-        (put-on (passive x) (page-of (copy (x .carrying .index) (x .carrying .part) b)))
+    (with-tapes (with-other (suc (x .tapes .other)) (x .tapes)) x)))
+    (put-on (passive x) (page-of (copy (x .carrying .index) (x .carrying .part) b)))
 
 abbrev pub carried : House → House
 carried x =
@@ -178,16 +178,16 @@ carried x =
 abbrev pub after-carry : House → Does
 after-carry x =
     pick (ltb (suc (x .carrying .part)) (records-of (x .carrying .long)))
-        (did (at-phase carry-read (with-carrying (carrying-of (x .carrying .index) (suc (x .carrying .part)) (x .carrying .long) (x .carrying .start) (x .carrying .quota) (x .carrying .waking)) x))
-            (read (entry-of x (x .carrying .index) .tape) (entry-of x (x .carrying .index) .at + suc (x .carrying .part))))
-        (carry (carried x))
+    (did (at-phase carry-read (with-carrying (carrying-of (x .carrying .index) (suc (x .carrying .part)) (x .carrying .long) (x .carrying .start) (x .carrying .quota) (x .carrying .waking)) x))
+    (read (entry-of x (x .carrying .index) .tape) (entry-of x (x .carrying .index) .at + suc (x .carrying .part))))
+    (carry (carried x))
 
 -- the other tape begins: a head, the small state, and then what is carried
 abbrev pub begin-other : ℕ → Bool → House → Does
 begin-other quota waking x =
     did (at-phase compact-begun (with-carrying (carrying-of 0 0 0 0 quota waking)
-        (with-tapes (tapes-of (x .tapes .room) (x .tapes .active) (x .tapes .generation) (x .tapes .used) true 0 0) x)))
-        (begin (passive x))
+    (with-tapes (tapes-of (x .tapes .room) (x .tapes .active) (x .tapes .generation) (x .tapes .used) true 0 0) x)))
+    (begin (passive x))
 
 abbrev pub put-other : Rec News → House → Does
 put-other r x = did (at-phase setting-up (with-tapes (with-other (suc (x .tapes .other)) (x .tapes)) x)) (put-on (passive x) (page-of r))
@@ -201,8 +201,8 @@ no-news = news 0 0 0 nothing-else
 abbrev pub set-up-next : House → Does
 set-up-next x =
     pick (ltb (x .carrying .index) (length (set-up-of (x .store .small))))
-        (put-other (commit no-splice (getD (set-up-of (x .store .small)) (x .carrying .index) no-news)) (with-carrying (with-index (suc (x .carrying .index)) (x .carrying)) x))
-        (carry x)
+    (put-other (commit no-splice (getD (set-up-of (x .store .small)) (x .carrying .index) no-news)) (with-carrying (with-index (suc (x .carrying .index)) (x .carrying)) x))
+    (carry x)
 
 abbrev pub switch : House → House
 switch x = with-tapes (tapes-of (x .tapes .room) (passive x) (next-generation (x .tapes .generation)) (x .tapes .other) false 0 0) x
@@ -236,7 +236,7 @@ with-quota q w x = with-carrying (carrying-of 0 0 0 0 q w) x
 abbrev pub prepare : House → Does
 prepare x =
     pick (x .tapes .busy) (carry (with-quota (quota-of x) false x))
-        (pick (ltb (threshold (x .tapes .room)) (x .tapes .used + need x)) (begin-other (quota-of x) false x) (start-pass false x))
+    (pick (ltb (threshold (x .tapes .room)) (x .tapes .used + need x)) (begin-other (quota-of x) false x) (start-pass false x))
 
 abbrev pub no-room : House → Bool
 no-room x =
@@ -312,7 +312,7 @@ went-at-once p s = pick (walks (p .walk)) 0 (pick (ltb (p .after) (p .upto)) (s 
 abbrev pub start-job : Simple → ℕ → Plan → House → House
 start-job c size p x =
     with-job (record { plan = p; name = name-given (c .deed); size = size; lines = lines-given (c .deed) })
-    (with-walking (walking-of (p .after) 0 (went-at-once p (x .store .small)) []) x)
+    (with-walking (walking-of (p .after) 0 (went-at-once p (x .store .small)) []) (with-putting (putting-of false [] 0) x))
 
 abbrev pub do-plan : Update → House → Does
 do-plan same-as-before x = finish x
@@ -346,8 +346,8 @@ wake-by (only t) g h x = did (at-phase replaying (with-tapes (tapes-of (x .tapes
 abbrev pub replay-record : Rec News → House → Does
 replay-record r x =
     pick (intact r)
-        (did (with-store (after updated (x .tapes .active) (x .tapes .used) (x .store) r) (with-tapes (with-used (suc (x .tapes .used)) (x .tapes)) x)) (read (x .tapes .active) (suc (x .tapes .used))))
-        (begin-other no-limit true (with-store (with-pending [] (x .store)) x))
+    (did (with-store (after updated (x .tapes .active) (x .tapes .used) (x .store) r) (with-tapes (with-used (suc (x .tapes .used)) (x .tapes)) x)) (read (x .tapes .active) (suc (x .tapes .used))))
+    (begin-other no-limit true (with-store (with-pending [] (x .store)) x))
 
 abbrev pub fresh-first : House → Does
 fresh-first x =

@@ -8,26 +8,26 @@ use Rattle.commands.specs.Plan.{Plan, Sizes, sizes, say-plan, no-row}
 
 -- what the last act was
 pub data Phase : Type 0 where
-  idle : Phase                       -- a command ended
-  wake-first : Phase                 -- the first record of tape 0 was asked for
-  wake-second : Phase                -- and of tape 1
-  replaying : Phase                  -- a record of the tape that counts was asked for
-  fresh-begun : Phase                -- no tape counts: tape 0 was begun anew
-  fresh-head : Phase                 -- its head was put on
-  fresh-fast : Phase                 -- it was fastened
-  compact-begun : Phase              -- the other tape was begun anew
-  setting-up : Phase                 -- its head, or a record of the small state, was put on
-  carry-read : Phase                 -- a record of an entry was asked for
-  carry-put : Phase                  -- and put on the other tape
-  compact-fast : Phase               -- the other tape was fastened
-  switched : Phase                   -- the old tape was begun anew
-  fetching : Phase                   -- a record of a line was asked for
-  row-shown : Phase                  -- a line was shown
-  line-put : Phase                   -- a record of a new line was put on
-  commit-put : Phase                 -- the commit was put on
-  commit-fast : Phase                -- the tape that counts was fastened
-  count-shown : Phase                -- a number was shown
-  file-shown : Phase                 -- a row of the table of files was shown
+  idle : Phase  -- a command ended
+  wake-first : Phase  -- the first record of tape 0 was asked for
+  wake-second : Phase  -- and of tape 1
+  replaying : Phase  -- a record of the tape that counts was asked for
+  fresh-begun : Phase  -- no tape counts: tape 0 was begun anew
+  fresh-head : Phase  -- its head was put on
+  fresh-fast : Phase  -- it was fastened
+  compact-begun : Phase  -- the other tape was begun anew
+  setting-up : Phase  -- its head, or a record of the small state, was put on
+  carry-read : Phase  -- a record of an entry was asked for
+  carry-put : Phase  -- and put on the other tape
+  compact-fast : Phase  -- the other tape was fastened
+  switched : Phase  -- the old tape was begun anew
+  fetching : Phase  -- a record of a line was asked for
+  row-shown : Phase  -- a line was shown
+  line-put : Phase  -- a record of a new line was put on
+  commit-put : Phase  -- the commit was put on
+  commit-fast : Phase  -- the tape that counts was fastened
+  count-shown : Phase  -- a number was shown
+  file-shown : Phase  -- a row of the table of files was shown
 
 -- the two tapes: which one counts, its generation, how many records are on it; whether entries are being carried to the other one, how many records that has,
 -- and before which entry none is left to carry

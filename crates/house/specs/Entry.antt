@@ -41,7 +41,7 @@ pub record Answered (r : Registers) (ev : Event) (r₁ : Registers) (told : Told
   pub state : r₁ ≡ answers r ev .state
   pub act : (out : List ℕ) → Act-told (answers r ev .act) told out out
 
--- one step: for memories of the house's own length and a lent row of 131,072 bytes; for others number 0 is told and nothing is changed
+-- one step: for memories of the house's own length and a lent row of at least 131,072 bytes; for others number 0 is told and nothing is changed
 unfoldable pub Step-says : (memory : List ℕ) (kind : ℕ) (bytes out : List ℕ) → Bool → Told → (memory₁ out₁ : List ℕ) → Type 0
 Step-says memory kind bytes out true r memory₁ out₁ =
     (memory₁ ≡ own .step memory (event-of kind bytes) .memory) × Act-told (own .step memory (event-of kind bytes) .act) r out out₁

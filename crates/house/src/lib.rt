@@ -93,7 +93,7 @@ fn answer(registers: &mut Registers, kind: u64, bytes: &[u8]) -> Told
 }
 
 /// One step: what is told is 0 power, with the records that a tape has room for as eight bytes, the highest first; 1 a command, 2 a record
-/// that was asked for or nothing, 3 that the last act is done. Where memory or row have another length, or for another kind, it says
+/// that was asked for or nothing, 3 that the last act is done. Where the memory has another length or the row is shorter, or for another kind, it says
 /// `No(0)` and changes nothing.
 pub fn step(memory: &mut [u64], kind: u64, bytes: &[u8], out: &mut [u8]) -> Told
     ensures { λ r. ⌜ Step-says (now (memory .entry)) kind (now (bytes .entry)) (now (out .entry)) (step-fits (now (memory .entry)) kind (now (bytes .entry)) (now (out .entry))) r (now (memory .exit)) (now (out .exit)) ⌝ }

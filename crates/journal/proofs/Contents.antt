@@ -9,13 +9,13 @@ use lib.Dec.{eqb}
 use lib.ListN.{length, getD, take, drop, length-append, length-take, length-drop, take-append-drop}
 use Rattle.plain.specs.Pattern.{pick, every}
 use Rattle.plain.specs.Device.{Device, Page, Tape, tape, lesser, half, left, stopped, so-many-of, tape-of, with-tape, read-record, nth-record, longer, fastened, anew}
-use Rattle.journal.proofs.Stops.{surviving, left-split}
+use Rattle.plain.proofs.Stops.{surviving, left-split}
 use Rattle.journal.specs.Log.{Rec, broken, Left, gone, torn, kept, Sides, ahead, back, Tapes, tapes, halved}
 use Rattle.journal.proofs.Stored.{left-behind}
 
-other-way : {x y : ℕ} → Sides x y → Sides y x
-other-way ahead = back
-other-way back = ahead
+pub sides-turn : {x y : ℕ} → Sides x y → Sides y x
+sides-turn ahead = back
+sides-turn back = ahead
 
 -- a record that is whole says so in its last byte
 zeros : (n k : ℕ) → getD (so-many-of {A = ℕ} n 0) k 0 ≡ 0
@@ -133,11 +133,11 @@ module _ {K : Type 0} (read : Page → Rec K) where
     layout-begin-new = layout-new v _ (h .sides) (h .old) tape-holds-anew
 
     pub layout-swap : Layout v y x F L T P
-    layout-swap = record { sides = other-way (h .sides); old = h .new; new = h .old }
+    layout-swap = record { sides = sides-turn (h .sides); old = h .new; new = h .old }
 
     -- the moment of the change
     pub layout-begin-old : Layout (anew v x) y x F L [] []
-    layout-begin-old = layout-new v _ (other-way (h .sides)) (h .new) tape-holds-anew
+    layout-begin-old = layout-new v _ (sides-turn (h .sides)) (h .new) tape-holds-anew
 
   -- when power comes back nothing is loose
   pub wake-layout : (v : Device) {x y : ℕ} → v .first .loose ≡ 0 → v .second .loose ≡ 0 → Sides x y → Layout v x y (tapes read v x) [] (tapes read v y) []

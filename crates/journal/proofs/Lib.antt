@@ -3,7 +3,6 @@ pub mod Machine
 pub mod Coding
 pub mod Whole
 pub mod Stops
-pub mod Fastened
 pub mod Alike
 pub mod Replay
 pub mod Stored

@@ -10,7 +10,7 @@ use Rattle.plain.specs.Pattern.{pick}
 use Rattle.plain.specs.Device.{Device, Page, read-record, longer, fastened, anew, stopped}
 use Rattle.plain.specs.Run.{Event, on, said, page, next, Act, read, put-on, fasten, begin, shows, done, refused, Engine, World, on-device, has-room, refusal-end, Item, proper, Right}
 use Rattle.journal.specs.Machine.{Did, did, Machine}
-use Rattle.journal.proofs.Running.{Outcome, goes-on, ended, acted, told, Then, at-end, at-act, weaker, Torn, Finished, Awake, Asleep, Anywhere, Sound, right-off}
+use Rattle.journal.proofs.Running.{Outcome, goes-on, ended, acted, told, Then, at-end, at-act, weaker, Torn, Finished, Awake, Asleep, Anywhere, Sound, right-off, picked-true}
 
 pub data Where (X : Type 0) : Type 0 where
   going : X → Device → Event → List (List ℕ) → ℕ → Where X
@@ -34,9 +34,6 @@ pub data Goes {X : Type 0} (M : Machine X) (Stop : Device → List (List ℕ) �
       {x : X} {d : Device} {ev : Event} {ss : List (List ℕ)} {r : ℕ} → M .Ok x ev → Stop d ss → Goes M Stop End (after-did d ss r (M .step x ev)) → Goes M Stop End (going x d ev ss r)
 
 -- the acts, as of an engine
-picked-true : {A : Type 0} (P : A → Type 0) (b : Bool) (x y : A) → b ≡ true → P x → P (pick b x y)
-picked-true P b x y q h = subst (λ c. P (pick c x y)) (sym q) h
-
 module _ {X : Type 0} {M : Machine X} {Stop : Device → List (List ℕ) → Type 0} {End : X → Device → List (List ℕ) → ℕ → ℕ → Type 0} where
   module _ {x : X} {d : Device} {ev : Event} {ss : List (List ℕ)} {r : ℕ} (ok : M .Ok x ev) (x₁ : X) where
     pub go-act : (a : Act) → M .step x ev ≡ did x₁ a → Stop d ss → Goes M Stop End (after-act d ss r x₁ a) → Goes M Stop End (going x d ev ss r)

@@ -80,7 +80,7 @@ Cut Stop x = (x .end ≡ 1000) × Stop (x .here .device) (x .showed)
 abbrev pub does : List ℕ → Act → Step
 does m a = record { memory = m; act = a }
 
-picked-true : {A : Type 0} (P : A → Type 0) (b : Bool) (x y : A) → b ≡ true → P x → P (pick b x y)
+pub picked-true : {A : Type 0} (P : A → Type 0) (b : Bool) (x y : A) → b ≡ true → P x → P (pick b x y)
 picked-true P b x y q h = subst (λ c. P (pick c x y)) (sym q) h
 
 module _ {e : Engine} {Stop : Device → List (List ℕ) → Type 0} {End : World → List (List ℕ) → ℕ → ℕ → Type 0} where

@@ -44,7 +44,7 @@ set-up-right s h =
     ∙ ap (λ z. settled updated z text) (settled-slots (s .ring) [] (s .files) 0 refl)
 
 -- beginning a tape takes few records
-length-pushes : (ws : List ℕ) → length (pushes ws) ≡ length ws
+pub length-pushes : (ws : List ℕ) → length (pushes ws) ≡ length ws
 unfolding pushes
 length-pushes [] = refl
 length-pushes (w ∷ ws) = ap suc (length-pushes ws)

@@ -1,7 +1,7 @@
 -- What a stop leaves of a tape. Assumes nothing.
 use mathlib.Core.Path.{_≡_, refl, sym, _∙_, ap, subst}
 use mathlib.Core.Bool.{Bool, true, false}
-use mathlib.Core.List.{List, [], _∷_, _++_, append-assoc, append-nil}
+use mathlib.Core.List.{List, [], _∷_, _++_, append-nil}
 use mathlib.Core.Logic.{_⊎_, inl, inr}
 use Prim.Native.Nat.{ℕ, zero, suc, _+_, _-_, _≤_, _<_}
 use native.Mathlib.Omega.{arith}
@@ -11,17 +11,8 @@ use lib.ListN.{length, take, drop, length-append}
 use lib.Seq.{take-append-add, drop-append-add, take-nil, drop-nil}
 use Rattle.plain.specs.Pattern.{pick}
 use Rattle.plain.specs.Device.{Device, Page, Tape, tape, lesser, half, left, stopped, so-many-of}
+use Rattle.plain.proofs.Stops.{surviving, left-split}
 use Rattle.journal.specs.Log.{halved}
-
--- of the loose records those that stay
-abbrev pub surviving : List Page → ℕ → ℕ → List Page
-surviving ys n h = take (lesser n (length ys)) ys ++ pick (eqb h 1) (half (drop (lesser n (length ys)) ys)) []
-
-pub left-split : (xs ys : List Page) (n h : ℕ) → left (tape (xs ++ ys) (length ys)) n h ≡ tape (xs ++ surviving ys n h) 0
-left-split xs ys n h =
-    let k : ℕ = lesser n (length ys) in
-    let q : length (xs ++ ys) - length ys ≡ length xs = simp length-append (omega arith) in
-    rw (q, take-append-add xs ys k, drop-append-add xs ys k, append-assoc)
 
 pick-same : {A : Type 0} (b : Bool) (x : A) → pick b x x ≡ x
 pick-same true x = refl

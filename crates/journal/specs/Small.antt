@@ -16,10 +16,10 @@ abbrev pub entry : List ℕ → ℕ → ℕ → Entry
 entry n l s = record { name = n; lines = l; size = s }
 
 pub record Small : Type 0 where
-  pub count : ℕ                      -- lines of the text
+  pub count : ℕ  -- lines of the text
   pub current : ℕ
-  pub weight : ℕ                     -- of the lines of the text
-  pub ring : List ℕ                  -- what each earlier stand weighs, the oldest first, up to 64
+  pub weight : ℕ  -- of the lines of the text
+  pub ring : List ℕ  -- what each earlier stand weighs, the oldest first, up to 64
   pub files : List Entry
 
 abbrev pub small : ℕ → ℕ → ℕ → List ℕ → List Entry → Small

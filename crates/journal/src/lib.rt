@@ -1,13 +1,43 @@
 //! The log on two tapes: what replaying records gives, what a stop leaves of them, how what is needed is carried to the other tape, and how an engine above it is
-//! run beside the plain house. It has no code of its own: each law is the contract of a function.
-ghost use Rattle.plain.specs.Promise.{Fastened-stays};
+//! run beside the plain house. Each law is the contract of a function that does nothing.
+ghost use mathlib.Core.Path.{_≡_};
+ghost use lib.Dec.{eqb};
+ghost use Rattle.journal.specs.Log.{choose, next-generation};
+ghost use Rattle.journal.specs.Tapes.{which-of};
 ghost use Rattle.journal.specs.Laws.{Apply-natural, Commit-all-at-once, Compaction-keeps-lines, No-full-tape, Stop-keeps-state, Torn-tail-unseen, Within-grant};
 
-/// What was fastened stays, whatever a stop leaves of later records and of the other tape.
-pub fn fastened_stays() -> u8
-    ensures { λ _. ⌜ Fastened-stays ⌝ }
+/// The generation after which 1 comes again.
+const LAST_GENERATION: u32 = 3;
+
+/// A tape by its place on the device.
+#[derive(Clone, Copy)]
+pub enum Tape {
+    First,
+    Second,
+}
+
+/// Whether a tape of generation `newer` was begun for compaction of one of generation `older`: generations are 1, 2 and 3 in turn.
+fn follows(newer: u32, older: u32) -> bool
+    ensures { λ r. ⌜ r ≡ eqb newer (next-generation older) ⌝ }
 {
-    0
+    if older == LAST_GENERATION {
+        return newer == 1;
+    }
+    newer > older && newer - older == 1
+}
+
+/// Which tape counts, by the generations that the heads of both name, 0 where there is no head: of two the older one, since the newer may not have everything
+/// yet; none where there is no head at all.
+pub fn counting(first: u32, second: u32) -> Option<Tape>
+    ensures { λ r. ⌜ which-of r ≡ choose first second ⌝ }
+{
+    match (first, second) {
+        (0, 0) => None,
+        (_, 0) => Some(Tape::First),
+        (0, _) => Some(Tape::Second),
+        _ if follows(second, first) => Some(Tape::First),
+        _ => Some(Tape::Second),
+    }
 }
 
 /// A splice of the directory does the same to positions and to the lines that lie there.

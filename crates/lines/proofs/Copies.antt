@@ -47,7 +47,7 @@ copied-down from n at xs h g =
 -- one entry more in front of a copy further back, of which those from `left` on are there
 pub copied-up : (from n at left : ℕ) (xs : List ℕ) → from ≤ at → at + n ≤ length xs → 0 < left → left ≤ n
     → set (copied (from + left) (n - left) (at + left) xs) (at + (left - 1)) (getD (copied (from + left) (n - left) (at + left) xs) (from + (left - 1)) 0)
-      ≡ copied (from + (left - 1)) (n - (left - 1)) (at + (left - 1)) xs
+    ≡ copied (from + (left - 1)) (n - (left - 1)) (at + (left - 1)) xs
 copied-up from n at left xs h g p q =
     let low : from + left + (n - left) ≤ length xs = omega arith in
     let high : at + left + (n - left) ≤ length xs = omega arith in
@@ -66,4 +66,4 @@ copied-up-none from n at xs h g =
 -- and at its end all
 pub copied-up-all : (from n at left : ℕ) (xs : List ℕ) → left ≤ 0 → copied (from + left) (n - left) (at + left) xs ≡ copied from n at xs
 copied-up-all from n at left xs h =
-    let z : left ≡ 0 = omega arith in rw (z, add-zero, sub-zero, add-zero)
+    let z : left ≡ 0 = omega arith in simp (z, add-zero, sub-zero)

@@ -43,3 +43,14 @@ pub first-high : (t k : ℕ) (xs : List ℕ) → first-on t k xs ≤ k + length 
 unfolding first-on
 first-high t k [] = omega arith
 first-high t k (x ∷ xs) = let r = first-high t (suc k) xs in grind arith
+
+pub first-before : (t k : ℕ) (xs : List ℕ) (j : ℕ) → k + j < first-on t k xs → getD xs j 0 / 2 ^ 20 ≡ t → ⊥
+unfolding first-on
+first-before t k [] j h e = omega arith
+first-before t k (x ∷ xs) zero h e = grind (arith, eq-eqb, e)
+first-before t k (x ∷ xs) (suc j) h e = let r = first-before t (suc k) xs j in grind arith
+
+pub first-found : (t k : ℕ) (xs : List ℕ) → first-on t k xs < k + length xs → getD xs (first-on t k xs - k) 0 / 2 ^ 20 ≡ t
+unfolding first-on
+first-found t k [] h = omega arith
+first-found t k (x ∷ xs) h = let r = first-found t (suc k) xs in let l = first-low t (suc k) xs in grind arith

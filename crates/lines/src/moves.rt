@@ -152,7 +152,14 @@ fn duplicate_behind(dir: &mut [u64], count: usize, p: usize, q: usize, x: usize,
 
 /// In place of `q` entries from `p` on, among the first `count`: a copy of the entries `x..y`, which lie before those or behind them. Says
 /// how many entries are in use then. None where that can't be done, and then nothing is changed.
-pub fn duplicate(dir: &mut [u64], count: usize, p: usize, q: usize, x: usize, y: usize) -> Option<usize>
+pub fn duplicate(
+    dir: &mut [u64],
+    count: usize,
+    p: usize,
+    q: usize,
+    x: usize,
+    y: usize,
+) -> Option<usize>
     ensures done { λ r. ⌜ (Duplicates (length (slots (now (dir .entry)))) count p q x y → (r ≡ Some (count - q + (y - x))) × (slots (now (dir .exit)) ≡ edited count p q (take (y - x) (drop x (slots (now (dir .entry))))) (slots (now (dir .entry))))) ⌝ }
     ensures refused { λ r. ⌜ ((Duplicates (length (slots (now (dir .entry)))) count p q x y → ⊥) → (r ≡ None) × (now (dir .exit) ≡ now (dir .entry))) ⌝ }
     ensures spare { λ _. ⌜ spares (now (dir .exit)) ≡ spares (now (dir .entry)) ⌝ }

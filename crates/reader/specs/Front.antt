@@ -2,10 +2,12 @@
 use mathlib.Core.Path.{_≡_}
 use mathlib.Core.Bool.{Bool, true, false, not}
 use mathlib.Core.List.{List, [], _∷_, _++_}
-use Prim.Native.Nat.{ℕ, suc, _+_, _≤_, _<_}
+use Prim.Native.Nat.{ℕ, _+_, _-_, _≤_, _<_}
 use lib.ListN.{length, take}
 use Rattle.plain.specs.Pattern.{none-of, any, or}
 use Rattle.plain.specs.Command.{reads}
+use Rattle.reader.specs.declared.failure.Failure.{Failure}
+use Rattle.reader.specs.declared.failure.Failure.the-variants.{TooLong, EndsEarly, AtByte}
 
 abbrev pub can-read : List ℕ → Bool
 can-read bs = not (none-of (reads bs))
@@ -32,3 +34,14 @@ pub record Longest (bs : List ℕ) (n : ℕ) : Type 0 where
   pub within : n ≤ length bs
   pub so-far : begins (take n bs) ≡ true
   pub no-further : n < length bs → begins (take (n + 1) bs) ≡ false
+
+-- the byte counted by n, from 1 on, is the first that no command goes on with
+pub record Stuck (bs : List ℕ) (n : ℕ) : Type 0 where
+  pub some : 1 ≤ n
+  pub within : n ≤ length bs
+  pub longest : Longest bs (n - 1)
+
+abbrev pub Why : List ℕ → Failure → Type 0
+Why bs TooLong = 65535 < length bs
+Why bs EndsEarly = begins bs ≡ true
+Why bs (AtByte n) = Stuck bs n

@@ -2,10 +2,11 @@
 ghost use mathlib.Core.Path.{_≡_};
 ghost use mathlib.Core.List.{_++_};
 ghost use Rattle.std.specs.Vec.{made};
-ghost use Rattle.reader.specs.Front.{can-read, one-of, slashes, questions, letters, begins, Longest};
+ghost use Rattle.reader.specs.Front.{can-read, one-of, slashes, questions, letters, begins, Longest, Why};
 use std::alloc::AllocError;
 use std::alloc::Global;
 use std::fmt;
+use typed::LONGEST_TYPED;
 use typed::read;
 
 /// Why bytes can't be read.
@@ -43,10 +44,12 @@ fn completed(front: &[u8], ending: &[u8], scratch: &mut Vec<u8>) -> Result<bool,
 fn slashed(front: &[u8], scratch: &mut Vec<u8>) -> Result<bool, AllocError>
     ensures { λ r. ⌜ made r (λ b. b ≡ one-of slashes (now (front .entry))) ⌝ }
 {
-    Ok(completed(front, b"", scratch)?
-        || completed(front, b"/", scratch)?
-        || completed(front, b"//", scratch)?
-        || completed(front, b"///", scratch)?)
+    Ok(
+        completed(front, b"", scratch)?
+            || completed(front, b"/", scratch)?
+            || completed(front, b"//", scratch)?
+            || completed(front, b"///", scratch)?,
+    )
 }
 
 /// Whether question marks do.
@@ -60,10 +63,14 @@ fn questioned(front: &[u8], scratch: &mut Vec<u8>) -> Result<bool, AllocError>
 fn lettered(front: &[u8], scratch: &mut Vec<u8>) -> Result<bool, AllocError>
     ensures { λ r. ⌜ made r (λ b. b ≡ one-of letters (now (front .entry))) ⌝ }
 {
-    Ok(completed(front, b"a", scratch)? || completed(front, b" a", scratch)? || completed(front, b"1", scratch)?)
+    Ok(
+        completed(front, b"a", scratch)?
+            || completed(front, b" a", scratch)?
+            || completed(front, b"1", scratch)?,
+    )
 }
 
-/// Whether a command begins with these bytes: if one does, one of these endings makes it whole.
+/// Whether one of these endings makes a command of these bytes. They are chosen so that one does wherever a command begins so, which is argued and not proved.
 fn begins(front: &[u8], scratch: &mut Vec<u8>) -> Result<bool, AllocError>
     ensures { λ r. ⌜ made r (λ b. b ≡ begins (now (front .entry))) ⌝ }
 {
@@ -89,8 +96,10 @@ fn longest_front(heap: Global, typed: &[u8]) -> Result<usize, AllocError>
 }
 
 /// Why these bytes, which aren't a command, can't be read.
-pub fn why_not(heap: Global, typed: &[u8]) -> Result<Failure, AllocError> {
-    if typed.len() > 65535 {
+pub fn why_not(heap: Global, typed: &[u8]) -> Result<Failure, AllocError>
+    ensures { λ r. ⌜ made r (λ x. Why (now (typed .entry)) x) ⌝ }
+{
+    if typed.len() > LONGEST_TYPED {
         return Ok(Failure::TooLong);
     }
     let front = longest_front(heap, typed)?;

@@ -1,10 +1,13 @@
 //! What is typed, taken line by line.
+ghost use mathlib.Core.Path.{_≡_};
+ghost use Rattle.plain.specs.Command.{reads};
+ghost use Rattle.reader.specs.Given.{takes-lines};
 use std::alloc::Global;
 use std::io;
 use std::io::BufRead;
-use typed::read;
 use typed::Command;
 use typed::Deed;
+use typed::read;
 
 /// The next line without its newline; false at the end of the input.
 fn next_line(input: &mut impl BufRead, line: &mut Vec<u8>) -> io::Result<bool> {
@@ -19,7 +22,9 @@ fn next_line(input: &mut impl BufRead, line: &mut Vec<u8>) -> io::Result<bool> {
 }
 
 /// Whether lines are given after these bytes.
-fn takes_lines(typed: &[u8]) -> bool {
+fn takes_lines(typed: &[u8]) -> bool
+    ensures { λ r. ⌜ r ≡ takes-lines (reads (now (typed .entry))) ⌝ }
+{
     let deed = match read(typed) {
         Some(Command::Plain(simple)) => simple.deed,
         Some(Command::Global { simple, .. }) => simple.deed,

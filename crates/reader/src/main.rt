@@ -6,8 +6,8 @@ mod input;
 mod quoted;
 mod words;
 
-use failure::why_not;
 use failure::FailureDisplay;
+use failure::why_not;
 use input::next_typed;
 use quoted::Quoted;
 use quoted::QuotedDisplay;
@@ -18,6 +18,7 @@ use typed::read;
 use words::Reading;
 use words::ReadingDisplay;
 
+/// What was typed and how it is read, in one line.
 fn reading(heap: Global, typed: &[u8]) -> io::Result<String> {
     let shown = Quoted(typed);
     let Some(command) = read(typed) else {

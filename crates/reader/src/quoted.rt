@@ -3,6 +3,7 @@ use std::fmt;
 
 /// More bytes than these are cut short.
 const MOST: usize = 80;
+
 const KEPT: usize = 32;
 
 /// Bytes as they are if they are printable, or else by their two digits; long ones cut short.

@@ -1,4 +1,9 @@
 //! Commands in words.
+ghost use mathlib.Core.Path.{_≡_};
+ghost use Rattle.plain.specs.House.{takes};
+ghost use Rattle.typed.specs.Meaning.{itself, address-of, deed-of};
+ghost use Rattle.typed.specs.Answer.{listed};
+ghost use Rattle.reader.specs.Words.{bare, default-number, for-each, has-range};
 use crate::quoted::Quoted;
 use crate::quoted::QuotedDisplay;
 use std::fmt;
@@ -65,7 +70,9 @@ impl fmt::Display for Line<'_> as LineDisplay {
 }
 
 /// The number that an address is, if it is nothing but a number.
-fn bare_number(address: &Address<'_>) -> Option<u64> {
+fn bare_number(address: &Address<'_>) -> Option<u64>
+    ensures { λ r. ⌜ listed itself r ≡ bare (address-of (now (address .entry))) ⌝ }
+{
     match address.place {
         Place::Number(n) if address.on == 0 && address.back == 0 => Some(n),
         _ => None,
@@ -76,7 +83,7 @@ fn bare_number(address: &Address<'_>) -> Option<u64> {
 #[derive(Clone, Copy)]
 struct Extent<'a> {
     range: Range<'a>,
-    otherwise: &'static str,
+    otherwise: Otherwise,
 }
 
 impl fmt::Display for Extent<'_> as ExtentDisplay {
@@ -84,7 +91,7 @@ impl fmt::Display for Extent<'_> as ExtentDisplay {
         let first = Line(self.range.first);
         let second = Line(self.range.second);
         match self.range.reach {
-            Reach::Unspecified => f.write_str(self.otherwise),
+            Reach::Unspecified => write!(f, "{}", self.otherwise),
             Reach::All => f.write_str("all lines"),
             Reach::One => write!(f, "{first}"),
             Reach::FromFirst => write!(f, "from {first}, made the current line, to {second}"),
@@ -127,11 +134,10 @@ impl fmt::Display for Given<'_> as GivenDisplay {
         if lines.nth(3).is_some() {
             f.write_str(", ...")?;
         }
-        f.write_str(")")?;
         if !lines.all_short() {
-            f.write_str(", not all short enough")?;
+            f.write_str("; not all short enough")?;
         }
-        Ok(())
+        f.write_str(")")
     }
 }
 
@@ -167,34 +173,88 @@ impl fmt::Display for Done<'_> as DoneDisplay {
             Deed::Print => f.write_str("shown"),
             Deed::Number => f.write_str("shown with numbers"),
             Deed::LineNumber => f.write_str("its number shown"),
-            Deed::Substitute { pattern, with, which } => {
-                write!(f, "{} of {} replaced by \"{}\"", Matches(which), Pattern(pattern), Quoted(with))
+            Deed::Substitute {
+                pattern,
+                with,
+                which,
+            } => {
+                write!(
+                    f,
+                    "{} of {} replaced by \"{}\"",
+                    Matches(which),
+                    Pattern(pattern),
+                    Quoted(with)
+                )
             },
             Deed::GoTo => f.write_str("made the current line and shown"),
             Deed::Undo => f.write_str("the last change taken back"),
             Deed::Redo => f.write_str("what was taken back last done again"),
             Deed::Write(name) => write!(f, "written to the file \"{}\"", Quoted(name)),
             Deed::Edit(name) => write!(f, "the text replaced by the file \"{}\"", Quoted(name)),
-            Deed::Read(name) => write!(f, "with the lines of the file \"{}\" put after it", Quoted(name)),
+            Deed::Read(name) => write!(
+                f,
+                "with the lines of the file \"{}\" put after it",
+                Quoted(name)
+            ),
             Deed::Files => f.write_str("the files listed"),
         }
     }
 }
 
 /// Whether a range typed before this counts.
-fn takes_range(deed: &Deed<'_>) -> bool {
+fn takes_range(deed: &Deed<'_>) -> bool
+    ensures { λ r. ⌜ r ≡ has-range (deed-of (now (deed .entry))) ⌝ }
+{
     !matches!(deed, Deed::Undo | Deed::Redo | Deed::Edit(_) | Deed::Files)
 }
 
-/// What is meant where no range was typed; `each` is for a line of a global command.
-fn otherwise(deed: &Deed<'_>, each: bool) -> &'static str {
+/// What is meant where no range was typed.
+#[derive(Clone, Copy)]
+enum Otherwise {
+    Current,
+    CurrentAndNext,
+    Last,
+    All,
+    Next,
+    /// Of a global command, the line for which it is done.
+    Itself,
+}
+
+impl fmt::Display for Otherwise as OtherwiseDisplay {
+    fn fmt<W: fmt::Write>(&self, f: &mut fmt::Formatter<W>) -> fmt::Result {
+        f.write_str(
+            match self {
+                Otherwise::Current => "the current line",
+                Otherwise::CurrentAndNext => "the current line and the next",
+                Otherwise::Last => "the last line",
+                Otherwise::All => "all lines",
+                Otherwise::Next => "the next line",
+                Otherwise::Itself => "the line itself",
+            },
+        )
+    }
+}
+
+/// What a deed takes if no range was typed.
+fn default_range(deed: &Deed<'_>) -> Otherwise
+    ensures { λ r. ⌜ default-number r ≡ takes (deed-of (now (deed .entry))) ⌝ }
+{
     match deed {
-        Deed::Join => "the current line and the next",
-        Deed::LineNumber | Deed::Read(_) => "the last line",
-        Deed::Write(_) => "all lines",
-        Deed::GoTo if each => "the line itself",
-        Deed::GoTo => "the next line",
-        _ => "the current line",
+        Deed::Join => Otherwise::CurrentAndNext,
+        Deed::LineNumber | Deed::Read(_) => Otherwise::Last,
+        Deed::Write(_) => Otherwise::All,
+        Deed::GoTo => Otherwise::Next,
+        _ => Otherwise::Current,
+    }
+}
+
+/// The same for each line of a global command: an address alone that isn't one is the line itself.
+fn default_for_each(deed: &Deed<'_>) -> Otherwise
+    ensures { λ r. ⌜ default-number r ≡ for-each (deed-of (now (deed .entry))) ⌝ }
+{
+    match deed {
+        Deed::GoTo => Otherwise::Itself,
+        _ => default_range(deed),
     }
 }
 
@@ -211,7 +271,12 @@ impl fmt::Display for Sentence<'_> as SentenceDisplay {
         let deed = self.simple.deed;
         let done = Done(deed);
         if takes_range(&deed) {
-            let extent = Extent { range, otherwise: otherwise(&deed, self.each) };
+            let otherwise = if self.each {
+                default_for_each(&deed)
+            } else {
+                default_range(&deed)
+            };
+            let extent = Extent { range, otherwise };
             return write!(f, "{extent}, {done}");
         }
         write!(f, "{done}")?;
@@ -229,12 +294,31 @@ pub struct Reading<'a>(pub Command<'a>);
 pub impl fmt::Display for Reading<'_> as ReadingDisplay {
     fn fmt<W: fmt::Write>(&self, f: &mut fmt::Formatter<W>) -> fmt::Result {
         match self.0 {
-            Command::Plain(simple) => write!(f, "{}", Sentence { simple, each: false }),
-            Command::Global { range, matching, pattern, simple } => {
-                let extent = Extent { range, otherwise: "all lines" };
+            Command::Plain(simple) => write!(
+                f,
+                "{}",
+                Sentence {
+                    simple,
+                    each: false
+                }
+            ),
+            Command::Global {
+                range,
+                matching,
+                pattern,
+                simple,
+            } => {
+                let extent = Extent {
+                    range,
+                    otherwise: Otherwise::All,
+                };
                 let having = if matching { "with" } else { "without" };
                 let simple = Sentence { simple, each: true };
-                write!(f, "{extent}, for each {having} {}: {simple}", Pattern(pattern))
+                write!(
+                    f,
+                    "{extent}, for each {having} {}: {simple}",
+                    Pattern(pattern)
+                )
             }
         }
     }

@@ -1,4 +1,4 @@
--- What is shown of records as pages: each is a statement, a type whose proof is owed. Assumes nothing.
+-- What is shown of records as pages: each statement is the contract of a function of this crate. Assumes nothing.
 use mathlib.Core.Path.{_≡_}
 use mathlib.Core.Bool.{true}
 use mathlib.Core.List.{List, []}

@@ -59,6 +59,7 @@ pub struct Range<'a> {
 /// How many digits a number may have.
 const DIGITS: usize = 9;
 
+/// The current line.
 const HERE: Address<'static> = Address {
     place: Place::Current,
     on: 0,
@@ -167,6 +168,7 @@ fn read_address(cs: &[u8]) -> Option<(Address<'_>, &[u8])>
     offsets(place, rest)
 }
 
+/// Whether an address begins here.
 fn starts_address(cs: &[u8]) -> bool
     ensures { λ r. ⌜ r ≡ starts-address (now (cs .entry)) ⌝ }
 {

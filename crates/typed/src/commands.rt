@@ -22,6 +22,7 @@ pub struct Simple<'a> {
     pub deed: Deed<'a>,
 }
 
+/// What was typed.
 #[derive(Clone, Copy)]
 pub enum Command<'a> {
     Plain(Simple<'a>),
@@ -34,6 +35,7 @@ pub enum Command<'a> {
     },
 }
 
+/// A range and a deed, to the end.
 fn read_simple(cs: &[u8]) -> Option<Simple<'_>>
     requires { ⌜ length (now cs) < 65536 ⌝ }
     ensures { λ r. ⌜ whole simple-of r ≡ simple (now (cs .entry)) ⌝ }
@@ -65,6 +67,7 @@ fn global<'a>(range: Range<'a>, matching: bool, cs: &'a [u8]) -> Option<Command<
     }
 }
 
+/// A command, to the end.
 fn read_command(cs: &[u8]) -> Option<Command<'_>>
     requires { ⌜ length (now cs) < 65536 ⌝ }
     ensures { λ r. ⌜ whole command-of r ≡ command (now (cs .entry)) ⌝ }
