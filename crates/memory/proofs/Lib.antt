@@ -10,6 +10,7 @@ pub mod Frames
 pub mod Positions
 pub mod Applying
 pub mod Noting
+pub mod Worded
 pub mod Storing
 pub mod Keeping
 pub mod Steadiness
