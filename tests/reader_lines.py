@@ -199,6 +199,9 @@ ROWS = [
     ("s/a/b/ ", no(7)),
     # g, v
     ("g/milk/d", "all lines, for each with /milk/: the current line, deleted"),
+    # the examples of docs/COMMANDS.md that stand nowhere else
+    ("2;+3p", "from line 2, made the current line, to the current line and 3 on, shown"),
+    ("g/milk/s/1/2/", 'all lines, for each with /milk/: the current line, the first match of /1/ replaced by "2"'),
     ("v/milk/m0", "all lines, for each without /milk/: the current line, moved after line 0"),
     ("g/x/", f"all lines, for each with /x/: the line itself, {SHOWN}"),
     ("v//", f"all lines, for each without the last pattern: the line itself, {SHOWN}"),
