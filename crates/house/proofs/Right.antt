@@ -20,10 +20,10 @@ use Rattle.journal.proofs.Running.{Torn, Anywhere, Asleep}
 use Rattle.journal.proofs.Machine.{Goes, going, is-going, is-over, after-did, Did-it, Awoke, Sound-machine}
 use Rattle.journal.proofs.Coding.{Coding, laid-long, laid-is}
 use Rattle.journal.proofs.Whole.{Begins, coded-whole}
-use Rattle.house.specs.declared.registers.Phase.{Phase}
-use Rattle.house.specs.declared.registers.Phase.the-variants.{Off, Idle}
-use Rattle.house.specs.declared.registers.Registers.{Registers}
-use Rattle.house.specs.Registers.{number-of, phase-of, registers, loaded, numbers}
+use Rattle.memory.specs.declared.registers.Registers.{Registers}
+use Rattle.memory.specs.Registers.{Tame, loaded, numbers, stored}
+use Rattle.memory.proofs.Storing.{load-store, tame-loaded}
+use Rattle.memory.proofs.Steadiness.{small-append, small-take, small-drop, small-numbers}
 use Rattle.house.specs.Machine.{nothing, refused-by, woken, answers, machine, store, zeros}
 use Rattle.house.specs.Entry.{own}
 
@@ -32,52 +32,21 @@ pub zeros-long : length zeros ≡ 262144
 unfolding zeros
 zeros-long = length-replicate {A = ℕ} 262144 0
 
-phase-back : (ph : Phase) → phase-of (number-of ph) ≡ ph
-phase-back Off = refl
-phase-back Idle = refl
-
-twice : (n : ℕ) → n < 4294967296 → n % 4294967296 % 4294967296 ≡ n
-twice n h = rw (mod-eq-of-lt h, mod-eq-of-lt h)
-
-pub stored-is : (r : Registers) (m : List ℕ) → 2 ≤ length m → store r m ≡ numbers r ++ drop 2 m
+pub stored-is : (r : Registers) (m : List ℕ) → 48 ≤ length m → store r m ≡ stored r m
+unfolding stored
 stored-is r m h = laid-is (numbers r) m h
 
 coding : Coding machine loaded store zeros
 unfolding machine zeros
 coding = record {
   begins = refl;
-  stored = λ m r ev long fits. let e = stored-is r m (omega (arith, long, zeros-long)) in let p = phase-back (r .phase) in let n = twice (r .room) fits in ap loaded e ∙ (λ i. registers (p i) (n i));
+  stored = λ m r ev long tame. ap loaded (stored-is r m (omega (arith, long, zeros-long))) ∙ load-store r m tame;
   as-long = λ m r. laid-long (numbers r) m;
 }
 
 -- STEADY
-small-append : (xs ys : List ℕ) → all-small xs ≡ true → all-small ys ≡ true → all-small (xs ++ ys) ≡ true
-unfolding all-small
-small-append [] ys h k = k
-small-append (x ∷ xs) ys h k = let a = and-parts (ltb x 18446744073709551616) (all-small xs) h in and-from _ _ (a .0) (small-append xs ys (a .1) k)
-
-small-take : (n : ℕ) (xs : List ℕ) → all-small xs ≡ true → all-small (take n xs) ≡ true
-unfolding all-small
-small-take zero xs h = refl
-small-take (suc n) [] h = refl
-small-take (suc n) (x ∷ xs) h = let a = and-parts (ltb x 18446744073709551616) (all-small xs) h in and-from _ _ (a .0) (small-take n xs (a .1))
-
-small-drop : (n : ℕ) (xs : List ℕ) → all-small xs ≡ true → all-small (drop n xs) ≡ true
-unfolding all-small
-small-drop zero xs h = h
-small-drop (suc n) [] h = refl
-small-drop (suc n) (x ∷ xs) h = small-drop n xs (and-parts (ltb x 18446744073709551616) (all-small xs) h .1)
-
-phase-small : (ph : Phase) → number-of ph < 18446744073709551616
-phase-small Off = omega arith
-phase-small Idle = omega arith
-
-small-numbers : (r : Registers) → all-small (numbers r) ≡ true
-unfolding all-small
-small-numbers r = and-from _ _ (lt-ltb (number-of (r .phase)) 18446744073709551616 (phase-small (r .phase))) (and-from _ _ (lt-ltb (r .room % 4294967296) 18446744073709551616 (omega arith)) refl)
-
 store-small : (r : Registers) (m : List ℕ) → all-small m ≡ true → all-small (store r m) ≡ true
-store-small r m h = small-take (length m) (numbers r ++ drop 2 m) (small-append (numbers r) (drop 2 m) (small-numbers r) (small-drop 2 m h))
+store-small r m h = small-take (length m) (numbers r ++ drop 48 m) (small-append (numbers r) (drop 48 m) (small-numbers r) (small-drop 48 m h))
 
 all-zero : (n : ℕ) → every (λ x. eqb x 0) (replicate n 0) ≡ true
 all-zero zero = refl
@@ -111,7 +80,7 @@ pub record Off-now (R : ℕ) (d : Device) (w : Plain) : Type 0 where
 
 pub record Idle-now (R : ℕ) (r : Registers) (d : Device) (w : Plain) : Type 0 where
   pub off : Off-now R d w
-  pub fits : r .room < 4294967296
+  pub tame : Tame r
 
 may-refuse : (R : ℕ) (w : Plain) (t : List ℕ) → May nothing R w t [] 0 (refused-by t) w
 unfolding May
@@ -123,15 +92,25 @@ may-refuse R w t = elim (reads-one t) [
 anywhere : (R n : ℕ) (d : Device) (w : Plain) (t : List ℕ) → Off-now R d w → Anywhere (May nothing R) (λ d₁ w₁. Off-now R d₁ w₁) w t d []
 anywhere R n d w t h cs = record { now = w; more = []; used = 0; reply = refused-by t; then = w; allowed = may-refuse R w t; kept = inl refl; holds = record { room = h .room; same = h .same } }
 
+tame-woken : (R : ℕ) (r : Registers) → R < 4294967296 → Tame r → Tame (woken R r)
+tame-woken R r h t = record {
+  tapes = record { room = h; active = t .tapes .active; generation = t .tapes .generation; used = t .tapes .used; other = t .tapes .other; cursor = t .tapes .cursor };
+  kept = t .kept;
+  job = t .job;
+  walking = t .walking;
+  putting = t .putting;
+  carrying = t .carrying;
+}
+
 sound : (R : ℕ) → 1024 ≤ R → R ≤ 1048576 → Sound-machine (May nothing R) machine (λ n d w. Off-now R d w) (λ n r d w. Idle-now R r d w)
 unfolding machine answers
 sound R low high = record {
   rests = λ n r d w h cs. record { room = h .off .room; same = h .off .same };
   wakes = λ n d w h.
-      is-going (omega arith) (record { silent = refl; holds = λ cs. record { room = h .room; same = h .same } })
-      (is-over (record { well = refl; silent = refl; holds = record { off = h; fits = let e = h .room in omega arith } }));
+      is-going (tame-loaded zeros) (record { silent = refl; holds = λ cs. record { room = h .room; same = h .same } })
+      (is-over (record { well = refl; silent = refl; holds = record { off = h; tame = let e = h .room in tame-woken _ _ (omega arith) (tame-loaded zeros) } }));
   obeys = λ n r d w h t.
-      is-going (h .fits) (anywhere R n d w t (h .off))
+      is-going (h .tame) (anywhere R n d w t (h .off))
       (is-over (record { now = w; allowed = subst (λ k. May nothing R w t [] 0 k w) (sym (ends-so t)) (may-refuse R w t); holds = h }));
 }
   where

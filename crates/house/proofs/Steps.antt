@@ -12,8 +12,8 @@ use Rattle.plain.specs.Pattern.{pick}
 use Rattle.plain.specs.Run.{Event, on, said, page, next}
 use Rattle.house.specs.declared.Told.{Told}
 use Rattle.house.specs.declared.Told.the-variants.{Done, No}
-use Rattle.house.specs.declared.registers.Registers.{Registers}
-use Rattle.house.specs.Registers.{loaded, stored}
+use Rattle.memory.specs.declared.registers.Registers.{Registers}
+use Rattle.memory.specs.Registers.{loaded, stored}
 use Rattle.house.specs.Machine.{refused-by, woken, answers, machine, zeros}
 use Rattle.house.specs.Entry.{own, from-eight, event-of, Act-told, Answered, Step-says, step-fits}
 use Rattle.house.proofs.Right.{zeros-long, stored-is}
@@ -24,7 +24,7 @@ own-long = zeros-long
 
 -- ANSWERS, by kind
 module _ (r : Registers) (k : ℕ) (bs : List ℕ) where
-  pub power-answered : k ≡ 0 → Answered r (event-of k bs) (woken (from-eight 0 (take 8 bs))) Done
+  pub power-answered : k ≡ 0 → Answered r (event-of k bs) (woken (from-eight 0 (take 8 bs)) r) Done
   unfolding event-of answers Act-told
   power-answered e = rw e (record { state = refl; act = λ out. (refl, refl) })
 

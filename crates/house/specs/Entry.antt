@@ -8,8 +8,8 @@ use lib.ListN.{length, take, drop}
 use Rattle.plain.specs.Pattern.{pick}
 use Rattle.plain.specs.Run.{Engine, Event, on, said, page, next, Act, read, put-on, fasten, begin, shows, done, refused, Step}
 use Rattle.journal.specs.Machine.{coded}
-use Rattle.house.specs.Registers.{loaded}
-use Rattle.house.specs.declared.registers.Registers.{Registers}
+use Rattle.memory.specs.declared.registers.Registers.{Registers}
+use Rattle.memory.specs.Registers.{loaded}
 use Rattle.house.specs.Machine.{answers, machine, store, zeros}
 use Rattle.house.specs.declared.Told.{Told}
 use Rattle.house.specs.declared.Told.the-variants.{Read, Append, Fasten, Begin, Shows, Done, No}

@@ -7,14 +7,10 @@ ghost use Rattle.house.specs.Entry.{Answered, Step-says, event-of, from-eight 
 ghost use Rattle.house.specs.Machine.{nothing, woken, refused-by as refusal};
 ghost use Prim.Native.Nat.{_≤_};
 ghost use lib.ListN.{length, take};
+pub use memory::MEMORY;
+use memory::Phase;
+use memory::Registers;
 
-mod registers;
-
-use registers::Phase;
-use registers::Registers;
-
-/// How many numbers the machine's memory has: registers first, then what later commands keep there.
-pub const MEMORY: usize = 262_144;
 /// How many bytes the row at least has in which records and shown rows are handed out.
 pub const ROW: usize = 131_072;
 /// The last kind of event: power, a command, a record, go on.
@@ -74,10 +70,10 @@ fn from_eight(bytes: &[u8]) -> u64
 /// Power came, with so many records that a tape has room for.
 fn wake(registers: &mut Registers, room: u64) -> Told
     ensures told { λ r. ⌜ r ≡ Told.Done ⌝ }
-    ensures state { λ _. ⌜ now (registers .exit) ≡ woken room ⌝ }
+    ensures state { λ _. ⌜ now (registers .exit) ≡ woken room (now (registers .entry)) ⌝ }
 {
     registers.phase = Phase::Idle;
-    registers.room = room;
+    registers.tapes.room = room;
     Told::Done
 }
 

@@ -14,7 +14,7 @@ from-eight-requires c κs = rw (c .first-eight .ensures) (simp length-take (omeg
 pub returns-in-0 : need.returns-in-0
 returns-in-0 c =
     let ev = event-of (c .args .kind) (c .args .bytes .now) in
-    let e = c .wake .ensures .state ∙ ap (λ z. woken z) (c .from-eight .ensures ∙ ap (from-eight 0) (c .first-eight .ensures)) in
+    let e = c .wake .ensures .state ∙ ap (λ z. woken z (c .args .registers .now)) (c .from-eight .ensures ∙ ap (from-eight 0) (c .first-eight .ensures)) in
     subst (λ t. Answered (c .args .registers .now) ev (c .wake .last .registers) t) (sym (c .wake .ensures .told))
     (subst (λ z. Answered (c .args .registers .now) ev z Done) (sym e) (power-answered (c .args .registers .now) (c .args .kind) (c .args .bytes .now) (c .in-0 .is)))
 
