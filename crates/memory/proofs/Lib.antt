@@ -13,4 +13,5 @@ pub mod Noting
 pub mod Worded
 pub mod Storing
 pub mod Keeping
+pub mod Stored
 pub mod Steadiness
