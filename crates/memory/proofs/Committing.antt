@@ -75,5 +75,6 @@ module _ (k : Kept) (c : Splice) (u : News) (m : List ℕ) where
       let t : can-apply k c u ≡ true = and-from (can-note (u .also) (k .files)) can (sym e) (w .0) in
       record {
         kept = (λ i. Some record { entries = w .1 i; pending = 0; count = u .count; current = u .current; weight = u .weight; ring = h i .ring; files = h i .files })
-          ∙ ap (λ b. when b (kept-after k c u)) (sym t);
-        memory = j ∙ ap (noted-by (u .also) (k .ring) (k .files)) g ∙ sym (pick-yes (can-apply k c u) (noted-by (u .also) (k .ring) (k .files) spliced) m t) }
+            ∙ ap (λ b. when b (kept-after k c u)) (sym t);
+        memory = j ∙ ap (noted-by (u .also) (k .ring) (k .files)) g ∙ sym (pick-yes (can-apply k c u) (noted-by (u .also) (k .ring) (k .files) spliced) m t);
+      }

@@ -118,7 +118,8 @@ module _ (m ys : List ℕ) (h : length m ≡ 262144) where
         ring = same-ring m (with-words m ys) (parted.part-before 70016 174763 m ys (omega arith) 64 64 (lit≤ tt));
         files = same-files m (with-words m ys) (parted.part-before 70016 174763 m ys (omega arith) 128 4288 (lit≤ tt));
         text = same-text m (with-words m ys) (ap (map low) cells);
-        name = same-name m (with-words m ys) (parted.part-before 70016 174763 m ys (omega arith) 4416 64 (lit≤ tt)) }
+        name = same-name m (with-words m ys) (parted.part-before 70016 174763 m ys (omega arith) 4416 64 (lit≤ tt));
+      }
 
   module _ (l : length ys ≡ 65536) where
     cells-dir : Same-dir m (with-cells m ys)
@@ -138,11 +139,21 @@ module _ (m ys : List ℕ) (h : length m ≡ 262144) where
 
     pub beside-low : map high ys ≡ map high (cells-in m) → Beside-text m (with-cells m ys)
     beside-low e = record {
-        dir = cells-dir; pending = same-pending m (with-cells m ys) (ap (map high) cells-are ∙ e); ring = cells-ring; files = cells-files; name = cells-name }
+      dir = cells-dir;
+      pending = same-pending m (with-cells m ys) (ap (map high) cells-are ∙ e);
+      ring = cells-ring;
+      files = cells-files;
+      name = cells-name;
+    }
 
     pub beside-high : map low ys ≡ map low (cells-in m) → Beside-pending m (with-cells m ys)
     beside-high e = record {
-        dir = cells-dir; ring = cells-ring; files = cells-files; text = same-text m (with-cells m ys) (ap (map low) cells-are ∙ e); name = cells-name }
+      dir = cells-dir;
+      ring = cells-ring;
+      files = cells-files;
+      text = same-text m (with-cells m ys) (ap (map low) cells-are ∙ e);
+      name = cells-name;
+    }
 
   pub beside-weights : length ys ≡ 64 → Beside-ring m (with-ring m ys)
   beside-weights l =
@@ -152,7 +163,8 @@ module _ (m ys : List ℕ) (h : length m ≡ 262144) where
         pending = same-pending m (with-ring m ys) (ap (map high) cells);
         files = same-files m (with-ring m ys) (parted.part-behind 64 64 m ys (omega arith) 128 4288 (lit≤ tt) l);
         text = same-text m (with-ring m ys) (ap (map low) cells);
-        name = same-name m (with-ring m ys) (parted.part-behind 64 64 m ys (omega arith) 4416 64 (lit≤ tt) l) }
+        name = same-name m (with-ring m ys) (parted.part-behind 64 64 m ys (omega arith) 4416 64 (lit≤ tt) l);
+      }
 
   pub beside-table : length ys ≡ 4288 → Beside-files m (with-files m ys)
   beside-table l =
@@ -162,7 +174,8 @@ module _ (m ys : List ℕ) (h : length m ≡ 262144) where
         pending = same-pending m (with-files m ys) (ap (map high) cells);
         ring = same-ring m (with-files m ys) (parted.part-before 128 4288 m ys (omega arith) 64 64 (lit≤ tt));
         text = same-text m (with-files m ys) (ap (map low) cells);
-        name = same-name m (with-files m ys) (parted.part-behind 128 4288 m ys (omega arith) 4416 64 (lit≤ tt) l) }
+        name = same-name m (with-files m ys) (parted.part-behind 128 4288 m ys (omega arith) 4416 64 (lit≤ tt) l);
+      }
 
   pub beside-bytes : length ys ≡ 64 → Beside-name m (with-name m ys)
   beside-bytes l =
@@ -172,7 +185,8 @@ module _ (m ys : List ℕ) (h : length m ≡ 262144) where
         pending = same-pending m (with-name m ys) (ap (map high) cells);
         ring = same-ring m (with-name m ys) (parted.part-before 4416 64 m ys (omega arith) 64 64 (lit≤ tt));
         files = same-files m (with-name m ys) (parted.part-before 4416 64 m ys (omega arith) 128 4288 (lit≤ tt));
-        text = same-text m (with-name m ys) (ap (map low) cells) }
+        text = same-text m (with-name m ys) (ap (map low) cells);
+      }
 
 -- registers that are stored change none of these
 pub record Beside-all (m m₁ : List ℕ) : Type 0 where
@@ -192,4 +206,5 @@ beside-stored r m =
       ring = same-ring m (stored r m) (ap (take 64) (behind-stored r m 64 (lit≤ tt)));
       files = same-files m (stored r m) (ap (take 4288) (behind-stored r m 128 (lit≤ tt)));
       text = same-text m (stored r m) (ap (map low) cells);
-      name = same-name m (stored r m) (ap (take 64) (behind-stored r m 4416 (lit≤ tt))) }
+      name = same-name m (stored r m) (ap (take 64) (behind-stored r m 4416 (lit≤ tt)));
+    }

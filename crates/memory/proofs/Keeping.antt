@@ -56,7 +56,7 @@ unfolding with-entry
 kept-entry i p m h =
     let v = packed-position (p .tape) (p .at) in
     let e : packed.stored (words-in m) i v ≡ with-slots (words-in m) (set (entries-in m) i (v % 2 ^ 21)) =
-      words.words-are (packed.stored (words-in m) i v) (words-in m) (set (entries-in m) i (v % 2 ^ 21)) (slots-stored (words-in m) i v) (spares-stored (words-in m) i v) in
+    words.words-are (packed.stored (words-in m) i v) (words-in m) (set (entries-in m) i (v % 2 ^ 21)) (slots-stored (words-in m) i v) (spares-stored (words-in m) i v) in
     kept-part 70016 174763 m (packed.stored (words-in m) i v) (omega arith)
     (subst (Kept (words-in m)) (sym e) (kept-slots (words-in m) (set (entries-in m) i (v % 2 ^ 21))))
 
@@ -106,7 +106,8 @@ kept-extended at bs m h =
     kept-part 4480 65536 m (take at cs ++ laid-low bs (drop at cs)) (omega arith)
     record {
       long = length-append (take at cs) (laid-low bs (drop at cs)) ∙ ap (λ n. length (take at cs) + n) (length-laid bs (drop at cs)) ∙ simp (length-take, length-drop) (omega arith);
-      small = λ s. small-append (take at cs) (laid-low bs (drop at cs)) (small-take at cs s) (small-laid bs (drop at cs) (small-drop at cs s)) })
+      small = λ s. small-append (take at cs) (laid-low bs (drop at cs)) (small-take at cs s) (small-laid bs (drop at cs) (small-drop at cs s));
+    })
 
 -- THE SMALL STATE
 kept-pushed : (n w : ℕ) (s : List ℕ) → length s ≡ 64 → Kept s (ring-pushed n w s)
@@ -114,7 +115,8 @@ kept-pushed n w s h =
     kept-pick (ltb n 64) s (set s n (capped w)) (drop 1 s ++ capped w ∷ []) (kept-set s n (capped w) (omega arith))
     record {
       long = length-append (drop 1 s) (capped w ∷ []) ∙ simp length-drop (omega arith);
-      small = λ q. small-append (drop 1 s) (capped w ∷ []) (small-drop 1 s q) (small-more (capped w) [] (omega arith) (small-map capped (λ x. omega arith) [])) }
+      small = λ q. small-append (drop 1 s) (capped w ∷ []) (small-drop 1 s q) (small-more (capped w) [] (omega arith) (small-map capped (λ x. omega arith) []));
+    }
 
 pub kept-weight : (n w : ℕ) (m : List ℕ) → length m ≡ 262144 → Kept m (with-weight n w m)
 unfolding with-weight
@@ -124,7 +126,8 @@ kept-over : (bs s : List ℕ) → length bs ≤ length s → Kept s (over bs s)
 kept-over bs s h =
     record {
       long = length-append (map low bs) (drop (length bs) s) ∙ simp (length-map, length-drop) (omega arith);
-      small = λ q. small-append (map low bs) (drop (length bs) s) (small-map low (λ x. omega arith) bs) (small-drop (length bs) s q) }
+      small = λ q. small-append (map low bs) (drop (length bs) s) (small-map low (λ x. omega arith) bs) (small-drop (length bs) s q);
+    }
 
 pub kept-name : (bs m : List ℕ) → length m ≡ 262144 → Kept m (name-kept bs m)
 unfolding name-kept
@@ -140,7 +143,8 @@ kept-numbers bs lines size old h g =
     let k = kept-over bs (drop 3 old) (omega arith) in
     record {
       long = ap (λ n. suc (suc (suc n))) (k .long) ∙ omega arith;
-      small = λ q. small-more (length bs) _ (omega arith) (small-more (capped lines) _ (omega arith) (small-more (capped size) _ (omega arith) (k .small (small-drop 3 old q)))) }
+      small = λ q. small-more (length bs) _ (omega arith) (small-more (capped lines) _ (omega arith) (small-more (capped size) _ (omega arith) (k .small (small-drop 3 old q))));
+    }
 
 pub kept-file : (n i : ℕ) (bs : List ℕ) (lines size : ℕ) (m : List ℕ) → length m ≡ 262144 → Kept m (file-set n i bs lines size m)
 unfolding file-set with-file

@@ -14,4 +14,6 @@ pub mod Worded
 pub mod Storing
 pub mod Keeping
 pub mod Stored
+pub mod Houses
+pub mod Counting
 pub mod Steadiness

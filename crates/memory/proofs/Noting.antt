@@ -35,9 +35,10 @@ low-bytes (b ∷ bs) h =
 -- THE RING
 pushed-long : (n w : ℕ) (s : List ℕ) → length s ≡ 64 → length (ring-pushed n w s) ≡ 64
 pushed-long n w s h = elim (cases-lt n 64) [
-    inl t ↦ ap length (pick-yes (ltb n 64) (set s n (capped w)) (drop 1 s ++ capped w ∷ []) (lt-ltb n 64 t)) ∙ length-set s n (capped w) ∙ h
+  | inl t ↦ ap length (pick-yes (ltb n 64) (set s n (capped w)) (drop 1 s ++ capped w ∷ []) (lt-ltb n 64 t)) ∙ length-set s n (capped w) ∙ h
   | inr t ↦ ap length (pick-no (ltb n 64) (set s n (capped w)) (drop 1 s ++ capped w ∷ []) (le-ltb n 64 t)) ∙ length-append (drop 1 s) (capped w ∷ [])
-      ∙ simp length-drop (omega arith) ]
+      ∙ simp length-drop (omega arith)
+]
 
 pub beside-weight : (n w : ℕ) (m : List ℕ) → length m ≡ 262144 → Beside-ring m (with-weight n w m)
 unfolding with-weight
@@ -133,7 +134,7 @@ files-put (suc k) zero t f h g l = λ i. file-at (take-at f (drop 67 t) 67 l i) 
 files-put (suc k) (suc i) t f h g l =
     let j : 67 + 67 * i ≡ 67 * suc i = omega arith in
     let d : drop 67 (with-part (67 * suc i) 67 t f) ≡ with-part (67 * i) 67 (drop 67 t) f =
-      ap (λ n. drop 67 (with-part n 67 t f)) (sym j) ∙ drop-with 67 (67 * i) 67 t f (omega arith) in
+    ap (λ n. drop 67 (with-part n 67 t f)) (sym j) ∙ drop-with 67 (67 * i) 67 t f (omega arith) in
     let b : take 67 (with-part (67 * suc i) 67 t f) ≡ take 67 t = parted.part-before (67 * suc i) 67 t f (omega arith) 0 67 (omega arith) in
     let r = files-put k i (drop 67 t) f (omega arith) (simp length-drop (omega arith)) l in
     let e : i + 1 ≡ suc i = add-one i in

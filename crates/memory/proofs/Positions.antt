@@ -10,7 +10,7 @@ use Rattle.std.proofs.shelf.Lists.{length-take, length-drop, length-append, len
 use Rattle.std.proofs.shelf.Tests.{cases-lt}
 use mathlib.Core.Logic.{_⊎_, inl, inr}
 use Rattle.plain.specs.Pattern.{pick}
-use Rattle.journal.specs.Log.{hole, position} 
+use Rattle.journal.specs.Log.{hole, position}
 use Rattle.journal.specs.Log as log
 use Rattle.engine.specs.Machine as engine
 use Rattle.engine.specs.Fits.{Position-fits}

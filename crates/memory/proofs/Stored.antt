@@ -44,9 +44,13 @@ noted-means (slot i e) ring files m h hr hf f c =
     let q = and-parts (leb (length (e .name)) 64) (all-bytes (e .name)) (p .0) in
     let r = and-parts (ltb (e .lines) 4294967296) (ltb (e .size) 4294967296) (p .1) in
     record {
-      dir = b .dir; text = b .text; name = b .name; ring = b .ring ring;
+      dir = b .dir;
+      text = b .text;
+      name = b .name;
+      ring = b .ring ring;
       files = ap (λ n. files-of n (noted-by (slot i e) ring files m)) (pick-yes (can-file files i (length (e .name))) (file-count files i) files c)
-        ∙ set-means files i (e .name) (e .lines) (e .size) m h c hf (q .1) (ltb-true (e .lines) 4294967296 (r .0)) (ltb-true (e .size) 4294967296 (r .1)) }
+          ∙ set-means files i (e .name) (e .lines) (e .size) m h c hf (q .1) (ltb-true (e .lines) 4294967296 (r .0)) (ltb-true (e .size) 4294967296 (r .1));
+    }
 
 -- THE STORE: the memory after a commit is what the log says, and text and name stay
 pub record Committed (t at : ℕ) (k : Kept) (c : Splice) (u : News) (m : List ℕ) : Type 0 where
@@ -67,13 +71,18 @@ applied-means t at k c u m h tame f can =
     let is : applied k c u m ≡ noted-by (u .also) (k .ring) (k .files) m₁ = pick-yes (can-apply k c u) (noted-by (u .also) (k .ring) (k .files) m₁) m can in
     record {
       store =
-        ap (store-of (kept-after k c u)) is
-        ∙ (λ i. state ((n .dir (k .entries - c .gone + came-by (c .source) (k .pending)) ∙ d) i) []
+          ap (store-of (kept-after k c u)) is
+          ∙ (λ i. state ((n .dir (k .entries - c .gone + came-by (c .source) (k .pending)) ∙ d) i) []
           (record {
-            count = u .count; current = u .current; weight = u .weight;
-            ring = (n .ring ∙ ap (ring-by (u .also)) (b .ring (k .ring))) i; files = (n .files ∙ ap (files-by (u .also)) (b .files (k .files))) i }));
+            count = u .count;
+            current = u .current;
+            weight = u .weight;
+            ring = (n .ring ∙ ap (ring-by (u .also)) (b .ring (k .ring))) i;
+            files = (n .files ∙ ap (files-by (u .also)) (b .files (k .files))) i;
+          }));
       text = λ j. ap (text-of j) is ∙ n .text j ∙ b .text j;
-      name = λ j. ap (name-of j) is ∙ n .name j ∙ b .name j }
+      name = λ j. ap (name-of j) is ∙ n .name j ∙ b .name j;
+    }
 
 -- A FILE READ
 pub file-means : (n i : ℕ) (m : List ℕ) (d : Entry) → i < n → getD (files-of n m) i d ≡ file-at (part (67 * i) 67 (files-in m))

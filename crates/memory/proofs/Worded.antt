@@ -17,7 +17,7 @@ use Rattle.memory.specs.declared.job.Lines.{Lines}
 use Rattle.memory.specs.declared.job.Lines.the-variants.{Nothing, Given, Joined}
 use Rattle.memory.specs.Registers.{part, with-part}
 use Rattle.memory.specs.Sections.{low, high, with-low, name-in, cells-in, with-cells, laid-low, extended, newline}
-use Rattle.memory.specs.Abstract.{text-of, name-of, job-lines, lines-left, left-of, line-end}
+use Rattle.memory.specs.Abstract.{text-of, name-of, job-lines, lines-left, left-of, line-end, some-lines}
 use Rattle.memory.proofs.Parted as parted
 use Rattle.memory.proofs.Frames.{Beside-text, beside-low}
 use Rattle.memory.proofs.Splicing.{cells-long}
@@ -106,7 +106,7 @@ unfolding text-of
 cells-text from n len m h =
     let e : from + (len - from) ≡ len = omega arith in
     let inner : drop from (take len (cells-in m)) ≡ take (len - from) (drop from (cells-in m)) =
-      ap (λ k. drop from (take k (cells-in m))) (sym e) ∙ drop-take from (len - from) (cells-in m) in
+    ap (λ k. drop from (take k (cells-in m))) (sym e) ∙ drop-take from (len - from) (cells-in m) in
     sym (ap (take n) (drop-map low from (take len (cells-in m))) ∙ take-map low n (drop from (take len (cells-in m)))
     ∙ ap (λ t. map low (take n t)) inner ∙ ap (map low) (take-take n (len - from) (drop from (cells-in m)) (omega arith)))
 
@@ -135,8 +135,9 @@ newline-within (b ∷ s) = by-byte (eqb b 10) (newline-within s) (newline-from 1
 
 ltb-suc : (a b : ℕ) → ltb (suc a) (suc b) ≡ ltb a b
 ltb-suc a b = elim (cases-lt a b) [
-    inl h ↦ lt-ltb (suc a) (suc b) (omega arith) ∙ sym (lt-ltb a b h)
-  | inr h ↦ le-ltb (suc a) (suc b) (omega arith) ∙ sym (le-ltb a b h) ]
+  | inl h ↦ lt-ltb (suc a) (suc b) (omega arith) ∙ sym (lt-ltb a b h)
+  | inr h ↦ le-ltb (suc a) (suc b) (omega arith) ∙ sym (le-ltb a b h)
+]
 
 -- the first line, and what is left behind it
 abbrev left-behind : ℕ → List ℕ → List (List ℕ)
@@ -181,12 +182,13 @@ whole-line at t f h =
     let l = length-drop at t in
     let e : at + length (drop at t) - at ≡ length (drop at t) = omega arith in
     (λ i. sym (ap (λ n. take n (drop at t)) e ∙ take-all (length (drop at t)) (drop at t) (omega arith)) i
-      ∷ sym (pick-no (ltb (at + length (drop at t)) (length t)) (f (drop (at + length (drop at t) + 1) t)) [] (le-ltb (at + length (drop at t)) (length t) (omega arith))) i)
+    ∷ sym (pick-no (ltb (at + length (drop at t)) (length t)) (f (drop (at + length (drop at t) + 1) t)) [] (le-ltb (at + length (drop at t)) (length t) (omega arith))) i)
 
 shifted : (at n : ℕ) (s t : List ℕ) → at + length s ≡ length t → ltb n (length s) ≡ ltb (at + n) (length t)
 shifted at n s t h = elim (cases-lt n (length s)) [
-    inl g ↦ lt-ltb n (length s) g ∙ sym (lt-ltb (at + n) (length t) (omega arith))
-  | inr g ↦ le-ltb n (length s) g ∙ sym (le-ltb (at + n) (length t) (omega arith)) ]
+  | inl g ↦ lt-ltb n (length s) g ∙ sym (lt-ltb (at + n) (length t) (omega arith))
+  | inr g ↦ le-ltb n (length s) g ∙ sym (le-ltb (at + n) (length t) (omega arith))
+]
 
 pub left-first : (ls : Lines) (at : ℕ) (t : List ℕ) → at ≤ length t
     → left-of true ls (drop at t) ≡ take (line-end ls at t - at) (drop at t) ∷ left-of (ltb (line-end ls at t) (length t)) ls (drop (line-end ls at t + 1) t)
@@ -205,11 +207,6 @@ left-first Given at t h =
     ∙ ap (λ j. take (j - at) (drop at t) ∷ left-of (ltb j (length t)) Given (drop (j + 1) t)) (sym e)
 
 -- at the beginning all lines are left
-abbrev pub some-lines : Lines → Bool
-some-lines Nothing = false
-some-lines Given = true
-some-lines Joined = true
-
 pub left-start : (ls : Lines) (t : List ℕ) → left-of (some-lines ls) ls (drop 0 t) ≡ job-lines ls t
 left-start Nothing t = refl
 left-start Given t = refl

@@ -52,8 +52,14 @@ can-apply k c u = can-note (u .also) (k .files) && can-by (c .source) (k .entrie
 unfoldable pub kept-after : Kept → Splice → News → Kept
 kept-after k c u =
     record {
-      entries = k .entries - c .gone + came-by (c .source) (k .pending); pending = 0; count = u .count; current = u .current; weight = u .weight;
-      ring = counts-by (u .also) (k .ring) (k .files) .ring; files = counts-by (u .also) (k .ring) (k .files) .files }
+      entries = k .entries - c .gone + came-by (c .source) (k .pending);
+      pending = 0;
+      count = u .count;
+      current = u .current;
+      weight = u .weight;
+      ring = counts-by (u .also) (k .ring) (k .files) .ring;
+      files = counts-by (u .also) (k .ring) (k .files) .files;
+    }
 
 unfoldable pub applied : Kept → Splice → News → List ℕ → List ℕ
 applied k c u m =

@@ -52,7 +52,11 @@ fn can_note(files: u64, also: Also, name: &[u8]) -> bool
     match also {
         Also::Nothing | Also::Push(_) => true,
         Also::Store { slot, .. } => {
-            let place = if (slot as u64) < files { slot as u64 } else { files };
+            let place = if (slot as u64) < files {
+                slot as u64
+            } else {
+                files
+            };
             place < TABLE as u64 && name.len() <= NAMES
         }
     }
@@ -93,7 +97,13 @@ fn note(memory: &mut [u64], counts: Counts, also: Also, name: &[u8]) -> Counts
 
 /// Applies a commit, with the name of a file that it stores, and says what is kept then. None where it can't be done, and then nothing is
 /// changed.
-pub fn apply(memory: &mut [u64], kept: Kept, splice: Splice, numbers: Numbers, name: &[u8]) -> Option<Kept>
+pub fn apply(
+    memory: &mut [u64],
+    kept: Kept,
+    splice: Splice,
+    numbers: Numbers,
+    name: &[u8],
+) -> Option<Kept>
     requires { ⌜ length (now memory) ≡ 262144 ⌝ }
     ensures kept { λ r. ⌜ r ≡ when (can-apply kept (splice-of splice) (news-of numbers (now (name .entry)))) (kept-after kept (splice-of splice) (news-of numbers (now (name .entry)))) ⌝ }
     ensures memory { λ _. ⌜ now (memory .exit) ≡ applied kept (splice-of splice) (news-of numbers (now (name .entry))) (now (memory .entry)) ⌝ }
