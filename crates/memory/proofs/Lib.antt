@@ -13,4 +13,7 @@ pub mod Noting
 pub mod Worded
 pub mod Storing
 pub mod Keeping
+pub mod Stored
+pub mod Houses
+pub mod Counting
 pub mod Steadiness

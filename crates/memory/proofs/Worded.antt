@@ -17,7 +17,7 @@ use Rattle.memory.specs.declared.job.Lines.{Lines}
 use Rattle.memory.specs.declared.job.Lines.the-variants.{Nothing, Given, Joined}
 use Rattle.memory.specs.Registers.{part, with-part}
 use Rattle.memory.specs.Sections.{low, high, with-low, name-in, cells-in, with-cells, laid-low, extended, newline}
-use Rattle.memory.specs.Abstract.{text-of, name-of, job-lines, lines-left, left-of, line-end}
+use Rattle.memory.specs.Abstract.{text-of, name-of, job-lines, lines-left, left-of, line-end, some-lines}
 use Rattle.memory.proofs.Parted as parted
 use Rattle.memory.proofs.Frames.{Beside-text, beside-low}
 use Rattle.memory.proofs.Splicing.{cells-long}
@@ -207,11 +207,6 @@ left-first Given at t h =
     ∙ ap (λ j. take (j - at) (drop at t) ∷ left-of (ltb j (length t)) Given (drop (j + 1) t)) (sym e)
 
 -- at the beginning all lines are left
-abbrev pub some-lines : Lines → Bool
-some-lines Nothing = false
-some-lines Given = true
-some-lines Joined = true
-
 pub left-start : (ls : Lines) (t : List ℕ) → left-of (some-lines ls) ls (drop 0 t) ≡ job-lines ls t
 left-start Nothing t = refl
 left-start Given t = refl

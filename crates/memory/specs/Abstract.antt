@@ -103,6 +103,11 @@ job-lines Nothing t = []
 job-lines Given t = command.lines-of [] t
 job-lines Joined t = t ∷ []
 
+abbrev pub some-lines : Lines → Bool
+some-lines Nothing = false
+some-lines Given = true
+some-lines Joined = true
+
 -- the lines that are left of a text
 abbrev pub lines-left : Lines → List ℕ → List (List ℕ)
 lines-left Nothing t = t ∷ []

@@ -3,3 +3,4 @@ pub mod Registers
 pub mod Sections
 pub mod Abstract
 pub mod Commit
+pub mod Laws

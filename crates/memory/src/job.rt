@@ -3,6 +3,7 @@
 ghost use mathlib.Core.Path.{_≡_};
 ghost use Prim.Native.Nat.{_≤_};
 ghost use lib.ListN.{length};
+ghost use Rattle.memory.specs.Abstract.{some-lines};
 ghost use Rattle.memory.specs.Numbers.{lines-of as decoded, lines-number as numbered};
 ghost use Rattle.memory.specs.Registers.{job-in as loaded, job-numbers as numbers};
 use crate::LIMIT;
@@ -38,6 +39,17 @@ impl Lines {
             Lines::Nothing => 0,
             Lines::Given => 1,
             Lines::Joined => 2,
+        }
+    }
+
+    /// Whether there is a line.
+    pub fn some(self) -> bool
+        ensures { λ r. ⌜ r ≡ some-lines self ⌝ }
+    {
+        match self {
+            Lines::Nothing => false,
+            Lines::Given => true,
+            Lines::Joined => true,
         }
     }
 }

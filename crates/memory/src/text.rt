@@ -101,7 +101,9 @@ fn newline(cells: &[u64], from: usize) -> usize
 /// Where the line ends that begins at `from` in the first `len` bytes: at the next newline, or behind the last byte.
 pub fn line_end(memory: &[u64], lines: Lines, from: u64, len: u64) -> u64
     requires { ⌜ length (now memory) ≡ 262144 ⌝ ∗ ⌜ from ≤ len ⌝ ∗ ⌜ len ≤ 65536 ⌝ }
-    ensures { λ r. ⌜ r ≡ ending lines from (text-of len (now (memory .entry))) ⌝ }
+    ensures end { λ r. ⌜ r ≡ ending lines from (text-of len (now (memory .entry))) ⌝ }
+    ensures behind { λ r. ⌜ from ≤ r ⌝ }
+    ensures within { λ r. ⌜ r ≤ len ⌝ }
 {
     match lines {
         Lines::Given => newline(text_cells(memory, 0, len), from as usize) as u64,
