@@ -1,29 +1,22 @@
 //! An editor by lines on two files that only get longer. What is typed is read from standard input; what is shown goes to standard output.
 
 use fault::Fault;
-use lock::Lock;
-use options::{Call, Options};
+use options::Call;
 use session::Session;
 
 mod console;
 mod fault;
-mod lock;
 mod options;
-mod progress;
-mod refusal;
 mod rows;
 mod session;
 mod tape;
-mod terminal;
 mod typing;
 
 const HELP: &str = "usage: editor [--room RECORDS] [FILE0 FILE1]
-       editor --help | --version
 
 Edits a text that is kept in two files, house.0 and house.1 unless others are
 named. They are made where they aren't there. RECORDS, from 1024 to 1048576,
 is how many records of 512 bytes a file may have, 65536 unless it is said.
-While it runs, FILE0.lock keeps other editors away from them.
 
 Commands are read from standard input, one a line:
   a i c      put the lines that follow, up to one with only a dot, after a
@@ -31,37 +24,19 @@ Commands are read from standard input, one a line:
   d j        delete a range; join it to one line
   p n =      show a range; with numbers; show a line's number
   w e f      write a range to a file of the house, edit one, list them
-An address alone shows that line: a number, . for the current line, $ for the
-last, +2 or -2 for steps from these. A range is two with a comma between, or %
-for all lines. What can't be done is refused by a number and changes nothing:
-1 can't be read, 2 isn't known yet, 3 no such file, 4 no such line, 7 a line of
-more than 1024 bytes or too many files, 8 no room.
+An address alone shows that line. What can't be done is refused by a number:
+1 what can't be read, 2 what isn't known yet, which today is all of these.
 ";
-
-const VERSION: &str = "editor, proved with rattle-kit-8b logic 7f726aa041520687
-";
-
-/// Edits, while the lock is held.
-fn edit(rt: &HostRuntime, options: Options) -> Result<(), Fault> {
-    let lock = Lock::take(rt, options.first.as_str())?;
-    let ended = talk(rt, options);
-    let released = lock.release(rt);
-    ended?;
-    released
-}
-
-fn talk(rt: &HostRuntime, options: Options) -> Result<(), Fault> {
-    Session::open(rt, options)?.talk(rt)
-}
 
 /// Runs the editor as the arguments say.
 fn run(rt: &HostRuntime) -> Result<(), Fault> {
     match options::read(rt)? {
-        Call::Help => rt.print(HELP)?,
-        Call::Version => rt.print(VERSION)?,
-        Call::Edit(options) => edit(rt, options)?,
+        Call::Help => {
+            rt.print(HELP)?;
+            Ok(())
+        }
+        Call::Edit(options) => Session::open(rt, options)?.talk(),
     }
-    Ok(())
 }
 
 fn main(rt: HostRuntime) -> Result<(), Fault> {

@@ -1,6 +1,3 @@
 pub mod Eight
-pub mod Tamed
-pub mod Answers
 pub mod Right
 pub mod Steps
-pub mod Dispatch

@@ -1,19 +1,39 @@
 -- What a step says, from what its parts say. Assumes nothing.
 use Rattle.std.proofs.Common.{◌≡◌, ℕ, ◌<◌, ◌≤◌, Bool, true, false, eqb, leb, ◌≢◌, ◌⊎◌, List, ◌++◌, length, take, drop, sym, refl, ap, ◌∙◌, subst, inl, inr, arith, eq-eqb, ne_eqb, le-leb}
 use borrow.Author.Tests.{lt-leb}
+use Rattle.plain.specs.Pattern.{pick}
+use Rattle.plain.specs.Run.{Event, on, said, page, next}
+use Rattle.house.specs.declared.Told.{Told}
+use Rattle.house.specs.declared.Told.TheVariants.{Done, No}
 use Rattle.memory.specs.declared.registers.Registers.{Registers}
 use Rattle.memory.specs.Registers.{loaded, stored}
-use Rattle.commits.specs.declared.Told.{Told}
-use Rattle.commits.specs.declared.Told.TheVariants.{No}
-use Rattle.commits.specs.Acts.{ActTold, Says}
-use Rattle.house.specs.Machine.{answers}
-use Rattle.house.specs.Entry.{own, event_of, StepSays, step_fits}
-use Rattle.house.proofs.Right.{zeros-long, own_steps}
+use Rattle.house.specs.Machine.{refused_by, woken, answers, machine, zeros}
+use Rattle.house.specs.Entry.{own, from_eight, event_of, ActTold, Answered, StepSays, step_fits}
+use Rattle.house.proofs.Right.{zeros-long, stored_is}
 
 own-long : length own.start ≡ 262144
 unfolding own
 own-long = zeros-long
 
+-- ANSWERS, by kind
+module _ (r : Registers) (k : ℕ) (bs : List ℕ) where
+  pub power_answered : k ≡ 0 → Answered r (event_of k bs) (woken (from_eight 0 (take 8 bs)) r) Done
+  unfolding event_of answers ActTold
+  power_answered e = rw e (record { state = refl; act = λ out. (refl, refl) })
+
+  pub said_answered : k ≡ 1 → Answered r (event_of k bs) r (No (refused_by bs))
+  unfolding event_of answers ActTold
+  said_answered e = rw e (record { state = refl; act = λ out. (refl, refl) })
+
+  pub other_answered : k ≢ 0 → k ≢ 1 → Answered r (event_of k bs) r (No 2)
+  unfolding event_of answers ActTold
+  other_answered a b = rw (ne_eqb k 0 a, ne_eqb k 1 b) (by (eqb k 2))
+    where
+      by : (b : Bool) → Answered r (pick b (page bs) next) r (No 2)
+      by true = record { state = refl; act = λ out. (refl, refl) }
+      by false = record { state = refl; act = λ out. (refl, refl) }
+
+-- A STEP
 module _ (m : List ℕ) (k : ℕ) (bs out : List ℕ) where
   fits : length m ≡ 262144 → k ≤ 3 → 131072 ≤ length out → step_fits m k bs out ≡ true
   unfolding step_fits
@@ -27,10 +47,10 @@ module _ (m : List ℕ) (k : ℕ) (bs out : List ℕ) where
   unfolding StepSays
   refuses h = rw (fits_not h) (refl, refl, refl)
 
-  pub steps : (r r₁ : Registers) (told : Told) (m₁ m₂ out₁ : List ℕ) → length m ≡ 262144 → k ≤ 3 → 131072 ≤ length out → r ≡ loaded m → Says (answers r m (event_of k bs)) r₁ m₁ told out out₁ → m₂ ≡ stored r₁ m₁ →
-      StepSays m k bs out (step_fits m k bs out) told m₂ out₁
-  unfolding StepSays
-  steps r r₁ told m₁ m₂ out₁ long low wide load a put =
-      let b : Says (answers (loaded m) m (event_of k bs)) r₁ m₁ told out out₁ = subst (λ z. Says (answers z m (event_of k bs)) r₁ m₁ told out out₁) load a in
-      let s = own_steps m (event_of k bs) long in
-      rw (fits long low wide) (put ∙ (λ i. stored (b.registers i) (b.memory i)) ∙ sym (ap (λ z. z.memory) s), subst (λ z. ActTold z.act told out out₁) (sym s) b.act)
+  pub steps : (r r₁ : Registers) (told : Told) (m₁ : List ℕ) → length m ≡ 262144 → k ≤ 3 → 131072 ≤ length out → r ≡ loaded m → Answered r (event_of k bs) r₁ told → m₁ ≡ stored r₁ m →
+      StepSays m k bs out (step_fits m k bs out) told m₁ out
+  unfolding StepSays own machine
+  steps r r₁ told m₁ long low wide load a put =
+      let b : Answered (loaded m) (event_of k bs) r₁ told = subst (λ z. Answered z (event_of k bs) r₁ told) load a in
+      let e = stored_is (answers (loaded m) (event_of k bs)).state m (omega arith) in
+      rw (fits long low wide) (put ∙ ap (λ z. stored z m) b.state ∙ sym e, b.act out)

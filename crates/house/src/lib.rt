@@ -1,15 +1,11 @@
 //! The house as a machine: one step of it, over lent memory and a lent row of bytes.
 
 ghost use Rattle.std.specs.Prelude.{◌≡◌, ◌≤◌, length, take};
-ghost use Rattle.plain.specs.House.{core};
 ghost use Rattle.plain.specs.Promise.{Whole};
 ghost use Rattle.plain.specs.Run.{Steady};
-ghost use Rattle.memory.specs.Registers.{Tame};
-ghost use Rattle.commits.specs.Acts.{Says};
-ghost use Rattle.house.specs.Machine.{on_record as recorded, on_next as proceeded, answers};
-ghost use Rattle.house.specs.Entry.{StepSays, event_of, from_eight as eighth, own, step_fits};
+ghost use Rattle.house.specs.Entry.{Answered, StepSays, event_of, from_eight as eighth, own, step_fits};
+ghost use Rattle.house.specs.Machine.{nothing, woken, refused_by as refusal};
 
-pub use commits::Told;
 pub use memory::MEMORY;
 use memory::{Phase, Registers};
 
@@ -17,8 +13,35 @@ use memory::{Phase, Registers};
 pub const ROW: usize = 131_072;
 /// The last kind of event: power, a command, a record, go on.
 const LAST_KIND: u64 = 3;
-/// Said where the machine was told what it didn't ask for.
-const LOST: u64 = 999;
+
+/// What the machine wants done.
+#[derive(Clone, Copy)]
+pub enum Told {
+    /// Read a record: twice its number, and the tape.
+    Read(u64),
+    /// Put the record at the front of the row on a tape.
+    Append(u64),
+    /// Make a tape's records durable.
+    Fasten(u64),
+    /// Begin a tape anew, without records.
+    Begin(u64),
+    /// Show so many bytes of the row.
+    Shows(u64),
+    /// The command is done.
+    Done,
+    /// The command is refused, with a number.
+    No(u64),
+}
+
+/// Can't be read: 1. Can be, and isn't known yet: 2.
+fn refusal(typed: &[u8]) -> u64
+    ensures { result ≡ refusal typed.now }
+{
+    match typed::read(typed) {
+        None => 1,
+        Some(_) => 2,
+    }
+}
 
 /// The first eight bytes, or all where there are fewer.
 fn first_eight(bytes: &[u8]) -> &[u8]
@@ -42,64 +65,24 @@ fn from_eight(bytes: &[u8]) -> u64
     number
 }
 
-/// The record came that was asked for, or nothing.
-fn on_record(registers: &mut Registers, memory: &mut [u64], out: &mut [u8], read: &[u8]) -> Told
-    requires { (length memory.old ≡ 262144) × ((131072 ≤ length out.old) × (Tame registers.old)) }
-    ensures { Says (recorded registers.old.phase read.now registers.old memory.old) registers.new memory.new result out.old out.new }
+/// Power came, with so many records that a tape has room for.
+fn wake(registers: &mut Registers, room: u64) -> Told
+    ensures told { result ≡ Told.Done }
+    ensures state { registers.new ≡ woken room registers.old }
 {
-    match registers.phase {
-        Phase::WakeFirst => recovery::woke_first(registers, read),
-        Phase::WakeSecond => recovery::woke_second(registers, read),
-        Phase::Replaying => recovery::replay_record(registers, memory, read),
-        Phase::CarryRead => compaction::carry_piece(registers, read, out),
-        Phase::Fetching => execution::fetched(registers, memory, out, read),
-        _ => commits::refuse(registers, LOST),
-    }
-}
-
-/// The last act is done.
-fn on_next(registers: &mut Registers, memory: &mut [u64], out: &mut [u8]) -> Told
-    requires { (length memory.old ≡ 262144) × ((131072 ≤ length out.old) × (Tame registers.old)) }
-    ensures { Says (proceeded registers.old.phase registers.old memory.old) registers.new memory.new result out.old out.new }
-{
-    match registers.phase {
-        Phase::FreshBegun => recovery::fresh_first(registers, out),
-        Phase::FreshHead => recovery::fresh_next(registers),
-        Phase::FreshFast => commits::end_done(registers),
-        Phase::CompactBegun => compaction::put_head(registers, out),
-        Phase::SettingUp => compaction::set_up_next(registers, memory, out),
-        Phase::CarryPut => compaction::after_carry(registers, memory, out),
-        Phase::CompactFast => compaction::begin_old(registers),
-        Phase::Switched => compaction::after_switch(registers, memory, out),
-        Phase::RowShown => execution::walk_on(registers, memory, out),
-        Phase::LinePut => commits::after_line(registers, memory, out),
-        Phase::CommitPut => commits::after_commit(registers, memory, out),
-        Phase::CommitFast => commits::after_fast(registers, memory, out),
-        Phase::CountShown => commits::end_done(registers),
-        Phase::FileShown => {
-            let next = registers.carrying.index + 1;
-            commits::show_files(registers, memory, out, next)
-        }
-        _ => commits::refuse(registers, LOST),
-    }
+    registers.phase = Phase::Idle;
+    registers.tapes.room = room;
+    Told::Done
 }
 
 /// What is done when something is told, and the registers then.
-fn answer(
-    registers: &mut Registers,
-    memory: &mut [u64],
-    out: &mut [u8],
-    kind: u64,
-    bytes: &[u8],
-) -> Told
-    requires { (length memory.old ≡ 262144) × ((131072 ≤ length out.old) × (Tame registers.old)) }
-    ensures { Says (answers registers.old memory.old (event_of kind bytes.now)) registers.new memory.new result out.old out.new }
+fn answer(registers: &mut Registers, kind: u64, bytes: &[u8]) -> Told
+    ensures { Answered registers.old (event_of kind bytes.now) registers.new result }
 {
     match kind {
-        0 => recovery::wake(registers, from_eight(first_eight(bytes))),
-        1 => execution::obey(registers, memory, out, bytes),
-        2 => on_record(registers, memory, out, bytes),
-        _ => on_next(registers, memory, out),
+        0 => wake(registers, from_eight(first_eight(bytes))),
+        1 => Told::No(refusal(bytes)),
+        _ => Told::No(2),
     }
 }
 
@@ -113,7 +96,7 @@ pub fn step(memory: &mut [u64], kind: u64, bytes: &[u8], out: &mut [u8]) -> Told
         return Told::No(0);
     }
     let mut registers = Registers::load(memory);
-    let told = answer(&mut registers, memory, out, kind, bytes);
+    let told = answer(&mut registers, kind, bytes);
     registers.store(memory);
     told
 }
@@ -125,10 +108,10 @@ pub fn own_is_steady() -> u8
     0
 }
 
-/// For any list of typed lines and any stops, on tapes of any size: what is shown, how each command ends and what is kept is what the plain house
-/// of lists does, for all that the core knows.
+/// For any list of typed lines and any stops, on tapes of any size, the machine refuses what can't be read with 1 and everything else with 2,
+/// shows nothing and keeps nothing.
 pub fn own_is_right() -> u8
-    ensures { Whole core own }
+    ensures { Whole nothing own }
 {
     0
 }

@@ -60,7 +60,7 @@ command_fit ls c u f s n = fit_append (block (map packed ls)) (commit c u ∷ []
 set_ups_fit : (us : List News) → ((u : News) → In u us → NewsFits u) → AllFit (map set_up us)
 set_ups_fit [] f r h = absurd h
 set_ups_fit (u ∷ us) f r (inl e) =
-    subst RecFits e (record { from = omega arith; gone = omega arith; source_from = omega arith; source_to = omega arith; beside = refl }, f u (inl refl))
+    subst RecFits e (record { from = omega arith; gone = omega arith; source_from = omega arith; source_to = omega arith }, f u (inl refl))
 set_ups_fit (u ∷ us) f r (inr h) = set_ups_fit us (λ v k. f v (inr k)) r h
 
 pub begin_fit : (g n : ℕ) (us : List News) → SmallNumber g → SmallNumber n → ((u : News) → In u us → NewsFits u) → AllFit (begin_records g n us)

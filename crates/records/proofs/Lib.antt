@@ -5,4 +5,3 @@ pub mod Laws
 pub mod Writing
 pub mod Commits
 pub mod Fits
-pub mod Read

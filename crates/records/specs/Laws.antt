@@ -1,12 +1,12 @@
 -- What is shown of records as pages: each statement is the contract of a function of this crate. Assumes nothing.
 use Rattle.std.specs.Prelude.{◌≡◌, ℕ, ◌+◌, ◌*◌, ◌<◌, ◌≤◌, true, List, [], length, slice_index_or}
 use Rattle.plain.specs.Device.{Page, a_page}
-use Rattle.journal.specs.Log.{no_piece, pieces_of, Rec, broken, halved}
+use Rattle.journal.specs.Log.{Piece, no_piece, pieces_of, Rec, line, copy, broken, halved}
 use Rattle.journal.specs.Small.{News}
 use Rattle.records.specs.Lines.{records_for, piece_at, packed, joined}
-use Rattle.records.specs.Pages.{page_of, record_of, Bytes, PieceFits, RecFits}
+use Rattle.records.specs.Pages.{page_of, record_of, recopied, Bytes, PieceFits, RecFits}
 
--- 1. What was written is read back, and may be put on a tape. It has to fit, so that no commit copies entries that it takes out.
+-- 1. What was written is read back, and may be put on a tape.
 unfoldable pub PageBack : Type 0
 PageBack = (r : Rec News) → RecFits r → (record_of (page_of r) ≡ r) × (a_page (page_of r) ≡ true)
 
@@ -24,3 +24,8 @@ pub record PackedRight (bs : List ℕ) : Type 0 where
 
 unfoldable pub LinePacked : Type 0
 LinePacked = (bs : List ℕ) → length bs ≤ 1024 → Bytes bs → PackedRight bs
+
+-- 4. The page of a line, or of a copy, made into that of a copy for another index.
+unfoldable pub RecopiedRight : Type 0
+RecopiedRight =
+    (i k j : ℕ) (b : Piece) → PieceFits j b → (recopied i (page_of (line j b)) ≡ page_of (copy i j b)) × (recopied i (page_of (copy k j b)) ≡ page_of (copy i j b))

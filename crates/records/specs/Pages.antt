@@ -1,14 +1,13 @@
 -- Records as pages of 512 bytes. Byte 0 is the kind: 1 a head, 2 a line, 3 a copy, 4 a commit. Byte 511, the seal, is 1: of a page of which only the first half
--- was written it is 0. Numbers have their highest byte first. A commit whose splice copies entries that it takes out is no record. Assumes nothing: these are
--- definitions.
+-- was written it is 0. Numbers have their highest byte first. Assumes nothing: these are definitions.
 --
 --   head    kind, generation 4, entries 4
 --   line    kind, part, the line's length 2, 0 0 0 0, up to 503 bytes
 --   copy    kind, part, the line's length 2, index of the directory 4, up to 503 bytes
 --   commit  kind, 13 numbers of 4: from, gone, the source's kind and two numbers, count, current line, weight, what else is said and three numbers, the
 --           length of a file's name; and the name
-use Rattle.std.specs.Prelude.{◌≡◌, ℕ, zero, suc, ◌+◌, ◌-◌, ◌*◌, ◌/◌, ◌%◌, ◌<◌, ◌≤◌, Bool, true, false, ◌&&◌, List, [], ◌∷◌, ◌++◌, length, take, drop, replicate, ◌==◌, nat_le, nat_lt, slice_index}
-use Rattle.plain.specs.Pattern.{pick, or, every, all_bytes}
+use Rattle.std.specs.Prelude.{◌≡◌, ℕ, zero, suc, ◌+◌, ◌-◌, ◌*◌, ◌/◌, ◌%◌, ◌<◌, ◌≤◌, Bool, true, false, ◌&&◌, List, [], ◌∷◌, ◌++◌, length, take, drop, replicate, ◌==◌, nat_lt, slice_index}
+use Rattle.plain.specs.Pattern.{pick, every}
 use Rattle.plain.specs.Device.{Page, lesser}
 use Rattle.journal.specs.Log.{Source, no_entries, new_entries, copied, Splice, Piece, piece, Rec, head, line, copy, commit, broken}
 use Rattle.journal.specs.Small.{Entry, entry, Also, nothing_else, push, slot, News}
@@ -33,15 +32,6 @@ four_at p k = slice_index p k * 16777216 + slice_index p (k + 1) * 65536 + slice
 -- the rest of a page, of n bytes before the seal
 abbrev pub closed : ℕ → List ℕ → List ℕ
 closed n bs = bs ++ (replicate (n - length bs) 0 ++ 1 ∷ [])
-
--- a splice copies no entry that it takes out: what it copies lies before these, or behind them
-abbrev pub source_beside : ℕ → ℕ → Source → Bool
-source_beside p q no_entries = true
-source_beside p q new_entries = true
-source_beside p q (copied x y) = nat_le x y && or (nat_le y p) (nat_le (p + q) x)
-
-abbrev pub beside : Splice → Bool
-beside c = source_beside c.from c.gone c.source
 
 -- the parts of a commit, by number
 abbrev pub source_kind : Source → ℕ
@@ -128,37 +118,17 @@ also_in_page p = also_by (four_at p 33) (four_at p 37) (four_at p 41) (four_at p
 abbrev pub news_in_page : Page → News
 news_in_page p = record { count = four_at p 21; current = four_at p 25; weight = four_at p 29; also = also_in_page p }
 
-abbrev pub commit_in_page : Page → Rec News
-commit_in_page p = pick (beside (splice_in_page p)) (commit (splice_in_page p) (news_in_page p)) broken
-
 abbrev pub by_kind : ℕ → Page → Rec News
 by_kind k p =
     pick (k == 1) (head (four_at p 1) (four_at p 5)) (pick (k == 2) (line (slice_index p 1) (piece_in_page p)) (pick (k == 3) (copy (four_at p 4) (slice_index p 1) (piece_in_page p))
-    (pick (k == 4) (commit_in_page p) broken)))
+    (pick (k == 4) (commit (splice_in_page p) (news_in_page p)) broken)))
 
--- what isn't sealed, or isn't made of bytes, is broken
 unfoldable pub record_of : Page → Rec News
-record_of p = pick (sealed p && all_bytes p) (by_kind (slice_index p 0) p) broken
+record_of p = pick (sealed p) (by_kind (slice_index p 0) p) broken
 
--- a commit with its numbers cut to 32 bits, as its page has them
-abbrev pub cut : ℕ → ℕ
-cut n = n % 4294967296
-
-abbrev pub cut_source : Source → Source
-cut_source no_entries = no_entries
-cut_source new_entries = new_entries
-cut_source (copied x y) = copied (cut x) (cut y)
-
-abbrev pub cut_splice : Splice → Splice
-cut_splice c = record { from = cut c.from; gone = cut c.gone; source = cut_source c.source }
-
-abbrev pub cut_also : Also → Also
-cut_also nothing_else = nothing_else
-cut_also (push w) = push (cut w)
-cut_also (slot k e) = slot (cut k) (entry e.name (cut e.lines) (cut e.size))
-
-abbrev pub cut_news : News → News
-cut_news u = record { count = cut u.count; current = cut u.current; weight = cut u.weight; also = cut_also u.also }
+-- the page of a line, or of a copy, made into that of a copy for another index
+unfoldable pub recopied : ℕ → Page → Page
+recopied i p = 3 ∷ take 3 (drop 1 p) ++ (four i ++ take 504 (drop 8 p))
 
 -- what fits
 abbrev pub SmallNumber : ℕ → Type 0
@@ -178,7 +148,6 @@ pub record SpliceFits (c : Splice) : Type 0 where
   pub gone : SmallNumber c.gone
   pub source_from : SmallNumber (source_from c.source)
   pub source_to : SmallNumber (source_to c.source)
-  pub beside : beside c ≡ true
 
 abbrev pub AlsoFits : Also → Type 0
 AlsoFits nothing_else = Unit {0}
@@ -197,16 +166,3 @@ RecFits (line j b) = PieceFits j b
 RecFits (copy i j b) = SmallNumber i × PieceFits j b
 RecFits (commit c u) = SpliceFits c × NewsFits u
 RecFits broken = ⊥
-
--- what every page gives
-pub record PieceRead (b : Piece) : Type 0 where
-  pub long : b.long < 65536
-  pub short : length b.bytes ≤ 503
-  pub bytes : Bytes b.bytes
-
-abbrev pub ReadFits : Rec News → Type 0
-ReadFits (head g n) = SmallNumber g × SmallNumber n
-ReadFits (line j b) = (j < 256) × PieceRead b
-ReadFits (copy i j b) = SmallNumber i × (j < 256) × PieceRead b
-ReadFits (commit c u) = SpliceFits c × NewsFits u
-ReadFits broken = Unit {0}

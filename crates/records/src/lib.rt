@@ -1,12 +1,12 @@
 //! Records of the log as pages of 512 bytes: written into lent bytes, and read from them without a copy. Laws of these pages are contracts of functions that do
 //! nothing.
-ghost use Rattle.records.specs.Laws.{LinePacked, PageBack, TornBroken};
+ghost use Rattle.records.specs.Laws.{LinePacked, PageBack, RecopiedRight, TornBroken};
 
 mod reader;
 mod writer;
 
-pub use reader::{decode, piece_read};
-pub use writer::{copy_line, encode_commit, encode_head, encode_line, records_for, share_of};
+pub use reader::decode;
+pub use writer::{encode_commit, encode_head, encode_line, line_to_copy, records_for, share_of};
 
 /// How many bytes a page has.
 pub const PAGE: usize = 512;
@@ -108,6 +108,13 @@ pub fn torn_broken() -> u8
 /// The pieces of a line make the line again, are as many as `records_for` says, and fit their pages.
 pub fn line_packed() -> u8
     ensures { LinePacked }
+{
+    0
+}
+
+/// The page of a line, or of a copy, made into that of a copy for another index.
+pub fn recopied_right() -> u8
+    ensures { RecopiedRight }
 {
     0
 }

@@ -1,8 +1,8 @@
 //! Reading a page.
 ghost use Rattle.std.specs.Prelude.{◌≡◌, ℕ, ◌+◌, ◌<◌, ◌≤◌, true, length, slice_index};
-ghost use Rattle.records.specs.Pages.{also_in_page, beside as a_beside, commit_in_page, four_at, name_in_page, news_in_page, piece_in_page, record_of, sealed, source_by, splice_in_page};
+ghost use Rattle.records.specs.Pages.{also_in_page, four_at, name_in_page, news_in_page, piece_in_page, record_of, sealed, source_by, splice_in_page};
 ghost use Rattle.records.specs.Values.{also_of, news_of, piece_of, rec_of, source_of, splice_of};
-ghost use Rattle.journal.specs.Log.{piece_in};
+ghost use Rattle.journal.specs.Log.{commit as a_commit};
 
 use crate::{Also, COMMIT, COPY, HEAD, LINE, Numbers, PAGE, Piece, Record, SEAL, Source, Splice};
 
@@ -62,19 +62,6 @@ fn splice(page: &[u8]) -> Splice
     }
 }
 
-/// Whether what a splice copies lies before the entries that it takes out, or behind them.
-fn beside(splice: Splice) -> bool
-    ensures { result ≡ a_beside (splice_of splice) }
-{
-    match splice.source {
-        Source::Nothing | Source::New => true,
-        Source::Copied { from, to } => {
-            let end = splice.from as u64 + splice.gone as u64;
-            from <= to && (to <= splice.from || end <= from as u64)
-        }
-    }
-}
-
 fn name(page: &[u8]) -> &[u8]
     requires { 512 ≤ length page.now }
     ensures { result.now ≡ name_in_page page.now }
@@ -101,12 +88,8 @@ fn also(page: &[u8]) -> Also
 
 fn commit(page: &[u8]) -> Record<'_>
     requires { 512 ≤ length page.now }
-    ensures { rec_of result ≡ commit_in_page page.now }
+    ensures { rec_of result ≡ a_commit (splice_in_page page.now) (news_in_page page.now) }
 {
-    let splice = splice(page);
-    if !beside(splice) {
-        return Record::Broken;
-    }
     let numbers = Numbers {
         count: number(page, 21),
         current: number(page, 25),
@@ -114,13 +97,13 @@ fn commit(page: &[u8]) -> Record<'_>
         also: also(page),
     };
     Record::Commit {
-        splice,
+        splice: splice(page),
         numbers,
         name: name(page),
     }
 }
 
-/// The record that a page holds; whatever is not whole, or no record, is broken, and so is a commit that copies what it takes out.
+/// The record that a page holds; whatever is not whole, or no record, is broken.
 pub fn decode(page: &[u8]) -> Record<'_>
     ensures { rec_of result ≡ record_of page.now }
 {
@@ -139,21 +122,5 @@ pub fn decode(page: &[u8]) -> Record<'_>
         },
         COMMIT => commit(page),
         _ => Record::Broken,
-    }
-}
-
-/// The share of a line that a page holds, which is nothing where it holds no line.
-pub fn piece_read(page: &[u8]) -> Piece<'_>
-    ensures piece { piece_of result ≡ piece_in (record_of page.now) }
-    ensures short { length result.bytes.now ≤ 503 }
-{
-    match decode(page) {
-        Record::Line(piece) => piece,
-        Record::Copy { piece, .. } => piece,
-        _ => Piece {
-            part: 0,
-            long: 0,
-            bytes: &[],
-        },
     }
 }

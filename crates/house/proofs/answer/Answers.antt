@@ -1,23 +1,24 @@
-use Rattle.std.proofs.Common.{◌≡◌, ◌≤◌, sym, ap, ◌∙◌, subst, arith, length-take, ne_eqb}
-use Rattle.house.specs.Machine.{answers}
-use Rattle.house.specs.Entry.{from_eight, event_of}
+use Rattle.std.proofs.Common.{◌≡◌, ◌≤◌, sym, refl, ap, ◌∙◌, subst, arith, length-take}
+use Rattle.house.specs.declared.Told.TheVariants.{Done, No}
+use Rattle.house.specs.Machine.{woken}
+use Rattle.house.specs.Entry.{from_eight, event_of, Answered}
+use Rattle.house.proofs.Steps.{power_answered, said_answered, other_answered}
 use Rattle.house.proofs.answer.Goals as goal
 
 pub from-eight-requires : goal.from-eight-requires
 from-eight-requires c = rw c.first-eight.ensures (simp length-take (omega arith))
 
 pub returns-in-0 : goal.returns-in-0
-unfolding answers event_of
-returns-in-0 c = simp (c.in-0.is, sym c.first-eight.ensures, sym c.from_eight.ensures) (c.wake.ensures c.args.memory.now c.args.out.now)
+returns-in-0 c =
+    let ev = event_of c.args.kind c.args.bytes.now in
+    let e = c.wake.ensures.state ∙ ap (λ z. woken z c.args.registers.now) (c.from_eight.ensures ∙ ap (from_eight 0) c.first-eight.ensures) in
+    subst (λ t. Answered c.args.registers.now ev c.wake.new.registers t) (sym c.wake.ensures.told)
+    (subst (λ z. Answered c.args.registers.now ev z Done) (sym e) (power_answered c.args.registers.now c.args.kind c.args.bytes.now c.in-0.is))
 
 pub returns-in-1 : goal.returns-in-1
-unfolding answers event_of
-returns-in-1 c = simp c.in-1.is c.obey.ensures
-
-pub returns-in-2 : goal.returns-in-2
-unfolding answers event_of
-returns-in-2 c = simp c.in-2.is c.on_record.ensures
+returns-in-1 c =
+    subst (λ z. Answered c.args.registers.now (event_of c.args.kind c.args.bytes.now) c.args.registers.now (No z)) (sym c.refusal.ensures)
+    (said_answered c.args.registers.now c.args.kind c.args.bytes.now c.in-1.is)
 
 pub returns-in-default : goal.returns-in-default
-unfolding answers event_of
-returns-in-default c = simp (ne_eqb c.args.kind 0 (omega arith), ne_eqb c.args.kind 1 (omega arith), ne_eqb c.args.kind 2 (omega arith)) c.on_next.ensures
+returns-in-default c = other_answered c.args.registers.now c.args.kind c.args.bytes.now (λ e. omega arith) (λ e. omega arith)

@@ -1,6 +1,4 @@
-use Rattle.std.proofs.Common.{sym, subst, inl, inr}
-use Rattle.memory.specs.Registers.{Tame}
-use Rattle.memory.proofs.Storing.{tame_loaded}
+use Rattle.std.proofs.Common.{inl, inr}
 use Rattle.house.proofs.step.Goals as goal
 use Rattle.house.proofs.step.Goals.{then-memory-ne-MEMORY-via-then-memory-ne-MEMORY, then-memory-ne-MEMORY-via-else-memory-ne-MEMORY+then-kind-gt-LAST-KIND, then-memory-ne-MEMORY-via-else-memory-ne-MEMORY+else-kind-gt-LAST-KIND+then-out-lt-ROW}
 use Rattle.house.proofs.Steps.{refuses, steps}
@@ -14,10 +12,7 @@ returns-then-memory-ne-MEMORY c =
       | then-memory-ne-MEMORY-via-else-memory-ne-MEMORY+else-kind-gt-LAST-KIND+then-out-lt-ROW w ↦ inr (inr w.if-out-lt-ROW.true)
     ])
 
-pub answer-told-requires : goal.answer-told-requires
-answer-told-requires c = (c.if-memory-ne-MEMORY.false, (c.if-out-lt-ROW.false, subst Tame (sym c.load-registers.ensures) (tame_loaded c.args.memory.now)))
-
 pub returns : goal.returns
 returns c =
-    steps c.args.memory.now c.args.kind c.args.bytes.now c.args.out.now c.load-registers.result c.answer-told.new.registers c.answer-told.result c.answer-told.new.memory
-    c.store.new.memory c.answer-told.new.out c.if-memory-ne-MEMORY.false c.if-kind-gt-LAST-KIND.false c.if-out-lt-ROW.false c.load-registers.ensures c.answer-told.ensures c.store.ensures
+    steps c.args.memory.now c.args.kind c.args.bytes.now c.args.out.now c.load-registers.result c.answer-told.new.registers c.answer-told.result c.store.new.memory
+    c.if-memory-ne-MEMORY.false c.if-kind-gt-LAST-KIND.false c.if-out-lt-ROW.false c.load-registers.ensures c.answer-told.ensures c.store.ensures

@@ -10,14 +10,14 @@ pub returns-in-0-default : goal.returns-in-0-default
 unfolding choose
 returns-in-0-default c = search rules
 
-pub returns-in-default-eq0 : goal.returns-in-default-eq0
+pub returns-in_default-eq0 : goal.returns-in_default-eq0
 unfolding choose
-returns-in-default-eq0 c = search rules
+returns-in_default-eq0 c = search rules
 
-pub returns-in-default : goal.returns-in-default
+pub returns-in_default : goal.returns-in_default
 unfolding choose
-returns-in-default c = search rules
+returns-in_default c = search rules
 
-pub returns-in-default-2 : goal.returns-in-default-2
+pub returns-in_default-2 : goal.returns-in_default-2
 unfolding choose
-returns-in-default-2 c = search rules
+returns-in_default-2 c = search rules

@@ -3,11 +3,11 @@ use Rattle.lines.proofs.Packing.{get_or-whole, length-slots}
 use Rattle.lines.proofs.moves.copy_down.Goals as goal
 use Rattle.std.proofs.Common.{rules}
 
-pub overflow-add-from : goal.overflow-add-from
-overflow-add-from c = search (rules, length-slots)
+pub overflow_add-from : goal.overflow_add-from
+overflow_add-from c = search (rules, length-slots)
 
-pub overflow-add-to : goal.overflow-add-to
-overflow-add-to c = search (rules, length-slots)
+pub overflow_add-to : goal.overflow_add-to
+overflow_add-to c = search (rules, length-slots)
 
 pub loop-i-init : goal.loop-i-init
 loop-i-init c = search (rules, copied_none)

@@ -3,8 +3,8 @@ use Rattle.lines.proofs.Splices.{filled_none, filled_more, filled_all}
 use Rattle.lines.proofs.moves.fill_within.Goals as goal
 use Rattle.std.proofs.Common.{rules}
 
-pub overflow-add-p : goal.overflow-add-p
-overflow-add-p c = search (rules, length-slots)
+pub overflow_add-p : goal.overflow_add-p
+overflow_add-p c = search (rules, length-slots)
 
 pub loop-i-init : goal.loop-i-init
 loop-i-init c = search (rules, filled_none)

@@ -3,8 +3,8 @@ use Rattle.lines.proofs.Packing.{length-slots}
 use Rattle.lines.proofs.moves.reverse_within.Goals as goal
 use Rattle.std.proofs.Common.{rules}
 
-pub overflow-add-a : goal.overflow-add-a
-overflow-add-a c = search (rules, length-slots)
+pub overflow_add-a : goal.overflow_add-a
+overflow_add-a c = search (rules, length-slots)
 
 pub loop-b-preserved : goal.loop-b-preserved
 loop-b-preserved c = search (rules, length-slots, reversed_step)

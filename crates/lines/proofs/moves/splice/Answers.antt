@@ -7,5 +7,5 @@ use Rattle.std.proofs.Common.{rules}
 pub returns : goal.returns
 returns c = search (rules, splice_is, length-map)
 
-pub fill-within-requires : goal.fill-within-requires
-fill-within-requires c = search (rules, length-slots)
+pub fill_within-requires : goal.fill_within-requires
+fill_within-requires c = search (rules, length-slots)

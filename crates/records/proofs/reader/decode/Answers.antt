@@ -1,6 +1,5 @@
 use Rattle.std.proofs.Common.{◌≡◌, sym, ap, ◌∙◌, arith}
 use Rattle.journal.specs.Log.{head, line, copy}
-use Rattle.records.proofs.Digits.{bytes_all}
 use Rattle.records.proofs.Pages.{decoded, decoded_open, decoded_other}
 use Rattle.records.proofs.reader.decode.Goals as goal
 
@@ -11,23 +10,23 @@ pub returns-in-1 : goal.returns-in-1
 returns-in-1 c =
     let x = c.number.ensures in
     let y = c.number-in-1.ensures in
-    (λ i. head (x i) (y i)) ∙ sym (decoded c.args.page.now 1 (sym c.whole.ensures.sealed ∙ c.if-not-whole.false) (bytes_all c.args.page.now (λ i. omega (arith, c.type-inv.page i))) c.in-1.is)
+    (λ i. head (x i) (y i)) ∙ sym (decoded c.args.page.now 1 (sym c.whole.ensures.sealed ∙ c.if-not-whole.false) c.in-1.is)
 
 pub returns-in-2 : goal.returns-in-2
 returns-in-2 c =
     let x = c.piece.ensures.part in
     let y = c.piece.ensures.piece in
-    (λ i. line (x i) (y i)) ∙ sym (decoded c.args.page.now 2 (sym c.whole.ensures.sealed ∙ c.if-not-whole.false) (bytes_all c.args.page.now (λ i. omega (arith, c.type-inv.page i))) c.in-2.is)
+    (λ i. line (x i) (y i)) ∙ sym (decoded c.args.page.now 2 (sym c.whole.ensures.sealed ∙ c.if-not-whole.false) c.in-2.is)
 
 pub returns-in-3 : goal.returns-in-3
 returns-in-3 c =
     let x = c.number-in-3.ensures in
     let y = c.piece-in-3.ensures.part in
     let z = c.piece-in-3.ensures.piece in
-    (λ i. copy (x i) (y i) (z i)) ∙ sym (decoded c.args.page.now 3 (sym c.whole.ensures.sealed ∙ c.if-not-whole.false) (bytes_all c.args.page.now (λ i. omega (arith, c.type-inv.page i))) c.in-3.is)
+    (λ i. copy (x i) (y i) (z i)) ∙ sym (decoded c.args.page.now 3 (sym c.whole.ensures.sealed ∙ c.if-not-whole.false) c.in-3.is)
 
 pub returns-in-4 : goal.returns-in-4
-returns-in-4 c = c.commit.ensures ∙ sym (decoded c.args.page.now 4 (sym c.whole.ensures.sealed ∙ c.if-not-whole.false) (bytes_all c.args.page.now (λ i. omega (arith, c.type-inv.page i))) c.in-4.is)
+returns-in-4 c = c.commit.ensures ∙ sym (decoded c.args.page.now 4 (sym c.whole.ensures.sealed ∙ c.if-not-whole.false) c.in-4.is)
 
-pub returns-in-default : goal.returns-in-default
-returns-in-default c = sym (decoded_other c.args.page.now (λ e. omega arith) (λ e. omega arith) (λ e. omega arith) (λ e. omega arith) (sym c.whole.ensures.sealed ∙ c.if-not-whole.false) (bytes_all c.args.page.now (λ i. omega (arith, c.type-inv.page i))))
+pub returns-in_default : goal.returns-in_default
+returns-in_default c = sym (decoded_other c.args.page.now (λ e. omega arith) (λ e. omega arith) (λ e. omega arith) (λ e. omega arith) (sym c.whole.ensures.sealed ∙ c.if-not-whole.false))

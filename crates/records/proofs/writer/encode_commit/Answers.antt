@@ -5,6 +5,6 @@ use Rattle.records.proofs.writer.encode_commit.Goals as goal
 
 pub returns : goal.returns
 returns c =
-    commit_written c.args.splice c.args.numbers c.args.name.now c.stored-name-name.result.now c.source-numbers-source.result c.also-numbers-also.result
-    c.args.out.now c.put-numbers.new.out c.put-numbers-2.new.out c.close.new.out c.source-numbers-source.ensures
-    (c.also-numbers-also.ensures (low_bytes c.args.name.now)) c.stored-name-name.ensures c.put-numbers.ensures c.put-numbers-2.ensures (omega arith) c.close.ensures
+    commit_written c.args.splice c.args.numbers c.args.name.now c.stored_name-name.result.now c.source_numbers-source.result c.also_numbers-also.result
+    c.args.out.now c.put_numbers.new.out c.put_numbers-2.new.out c.close.new.out c.source_numbers-source.ensures
+    (c.also_numbers-also.ensures (low_bytes c.args.name.now)) c.stored_name-name.ensures c.put_numbers.ensures c.put_numbers-2.ensures (omega arith) c.close.ensures

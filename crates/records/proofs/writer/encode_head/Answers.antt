@@ -8,6 +8,6 @@ pub returns : goal.returns
 unfolding page_of
 returns c =
     let out = c.args.out.now in
-    let part = c.put-numbers.new.out in
+    let part = c.put_numbers.new.out in
     page-closed 9 502 (1 ∷ fours (c.args.generation ∷ c.args.entries ∷ [])) [] out (put_mid 1 8 (set out 0 1) part) c.close.new.out
-    (written_first 1 8 part out (omega arith) ∙ ap (λ t. (1 ∷ t) ++ drop 9 out) c.put-numbers.ensures) refl refl c.requires c.close.ensures
+    (written_first 1 8 part out (omega arith) ∙ ap (λ t. (1 ∷ t) ++ drop 9 out) c.put_numbers.ensures) refl refl c.requires c.close.ensures

@@ -9,6 +9,6 @@ unfolding page_of
 returns c =
     let out = c.args.out.now in
     let front = 2 ∷ c.args.part ∷ two c.args.long ++ (0 ∷ 0 ∷ 0 ∷ 0 ∷ []) in
-    page-closed 8 503 front (low_bytes c.args.cells.now) out (c.copy-from-slice.new.self ++ drop 8 out) c.close.new.out
-    (ap (λ t. t ++ drop 8 out) (c.copy-from-slice.ensures.after ∙ ap (λ t. 2 ∷ c.args.part ∷ get_or t 0 0 ∷ get_or t 1 0 ∷ 0 ∷ 0 ∷ 0 ∷ 0 ∷ []) c.to-be-bytes.ensures))
+    page-closed 8 503 front (low_bytes c.args.cells.now) out (c.copy_from_slice.new.self ++ drop 8 out) c.close.new.out
+    (ap (λ t. t ++ drop 8 out) (c.copy_from_slice.ensures.after ∙ ap (λ t. 2 ∷ c.args.part ∷ get_or t 0 0 ∷ get_or t 1 0 ∷ 0 ∷ 0 ∷ 0 ∷ 0 ∷ []) c.to_be_bytes.ensures))
     refl refl (omega arith) c.close.ensures

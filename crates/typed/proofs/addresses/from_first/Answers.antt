@@ -7,24 +7,24 @@ use Rattle.typed.proofs.Fronts.{front, carried}
 use Rattle.typed.proofs.Shorter.{left_address}
 use Rattle.typed.proofs.addresses.from_first.Goals as goal
 
-pub to-second-requires : goal.to-second-requires
-to-second-requires c =
-    let ds = c.in-ok-first.rest.now in
-    omega (arith, left_address _ c.args.cs.now ds c.in-ok-first.ensures, ap length (front ds 44 (search rules) (search rules)))
+pub to_second-requires : goal.to_second-requires
+to_second-requires c =
+    let ds = c.in_ok-first.rest.now in
+    omega (arith, left_address _ c.args.cs.now ds c.in_ok-first.ensures, ap length (front ds 44 (search rules) (search rules)))
 
-pub to-second-requires-in-59 : goal.to-second-requires-in-59
-to-second-requires-in-59 c =
-    let ds = c.in-ok-first.rest.now in
-    omega (arith, left_address _ c.args.cs.now ds c.in-ok-first.ensures, ap length (front ds 59 (search rules) (search rules)))
+pub to_second-requires-in-59 : goal.to_second-requires-in-59
+to_second-requires-in-59 c =
+    let ds = c.in_ok-first.rest.now in
+    omega (arith, left_address _ c.args.cs.now ds c.in_ok-first.ensures, ap length (front ds 59 (search rules) (search rules)))
 
 pub returns-in-44 : goal.returns-in-44
 returns-in-44 c =
-    let ds = c.in-ok-first.rest.now in
-    let a = address_of c.in-ok-first.first in
-    c.to_second.ensures ∙ ap (from_first a) (sym (front ds 44 (search rules) (search rules))) ∙ carried from_first {g = got a ds} {h = an_address c.args.cs.now} c.in-ok-first.ensures
+    let ds = c.in_ok-first.rest.now in
+    let a = address_of c.in_ok-first.first in
+    c.to_second.ensures ∙ ap (from_first a) (sym (front ds 44 (search rules) (search rules))) ∙ carried from_first {g = got a ds} {h = an_address c.args.cs.now} c.in_ok-first.ensures
 
 pub returns-in-59 : goal.returns-in-59
 returns-in-59 c =
-    let ds = c.in-ok-first.rest.now in
-    let a = address_of c.in-ok-first.first in
-    c.to-second-in-59.ensures ∙ ap (from_first a) (sym (front ds 59 (search rules) (search rules))) ∙ carried from_first {g = got a ds} {h = an_address c.args.cs.now} c.in-ok-first.ensures
+    let ds = c.in_ok-first.rest.now in
+    let a = address_of c.in_ok-first.first in
+    c.to_second-in-59.ensures ∙ ap (from_first a) (sym (front ds 59 (search rules) (search rules))) ∙ carried from_first {g = got a ds} {h = an_address c.args.cs.now} c.in_ok-first.ensures

@@ -4,16 +4,16 @@ use Rattle.plain.specs.Command.{a_file}
 use Rattle.typed.proofs.Fronts.{tail_of, front}
 use Rattle.typed.proofs.Names.{without, within, a_name, no_name}
 use Rattle.typed.proofs.deeds.file_name.Goals as goal
-use Rattle.typed.proofs.deeds.file_name.Goals.{then-is-empty-via-then-is-empty, then-is-empty-via-else-is-empty+then-name-gt-LONGEST-NAME, then-is-empty-via-else-is-empty+else-name-gt-LONGEST-NAME+then-contains}
+use Rattle.typed.proofs.deeds.file_name.Goals.{then-is_empty-via-then-is_empty, then-is_empty-via-else-is_empty+then-name-gt-LONGEST_NAME, then-is_empty-via-else-is_empty+else-name-gt-LONGEST_NAME+then-contains}
 
-pub returns-then-is-empty : goal.returns-then-is-empty
-returns-then-is-empty c =
+pub returns-then-is_empty : goal.returns-then-is_empty
+returns-then-is_empty c =
     let cs = c.args.cs.now in
     no_name (tail_of cs) (λ some few.
-    elim c.then-is-empty.branch [
-      | then-is-empty-via-then-is-empty w ↦ absurd (omega (arith, true-eqb _ _ w.if-is-empty.ensures))
-      | then-is-empty-via-else-is-empty+then-name-gt-LONGEST-NAME w ↦ absurd (omega arith)
-      | then-is-empty-via-else-is-empty+else-name-gt-LONGEST-NAME+then-contains w ↦ let t = w.if-contains.ensures.cases in within 10 (tail_of cs) t.0 t.1 ((t.2 0).0 refl)
+    elim c.then-is_empty.branch [
+      | then-is_empty-via-then-is_empty w ↦ absurd (omega (arith, true-eqb _ _ w.if-is_empty.ensures))
+      | then-is_empty-via-else-is_empty+then-name-gt-LONGEST_NAME w ↦ absurd (omega arith)
+      | then-is_empty-via-else-is_empty+else-name-gt-LONGEST_NAME+then-contains w ↦ let t = w.if-contains.ensures.cases in within 10 (tail_of cs) t.0 t.1 ((t.2 0).0 refl)
     ])
     ∙ sym (ap a_file (front cs 32 (search rules) (search rules)))
 
@@ -21,5 +21,5 @@ pub returns : goal.returns
 returns c =
     let cs = c.args.cs.now in
     let h = c.if-contains.ensures.cases in
-    a_name (tail_of cs) (omega (arith, false-eqb _ _ c.if-is-empty.ensures)) c.if-name-gt-LONGEST-NAME.false (without 10 (tail_of cs) (λ k l e. clash ((h k 0 (omega arith) l).1 e)))
+    a_name (tail_of cs) (omega (arith, false-eqb _ _ c.if-is_empty.ensures)) c.if-name-gt-LONGEST_NAME.false (without 10 (tail_of cs) (λ k l e. clash ((h k 0 (omega arith) l).1 e)))
     ∙ sym (ap a_file (front cs 32 (search rules) (search rules)))

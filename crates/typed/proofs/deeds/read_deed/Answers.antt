@@ -6,40 +6,40 @@ use Rattle.typed.specs.Answer.{whole, a_swap}
 use Rattle.typed.proofs.Fronts.{tail_of, front, no_front, behind, behind_none, behind_got}
 use Rattle.typed.proofs.Letters.{at-nothing, a_mark, no_mark, Other, at_other, at_97, at_105, at_99, at_100, at_106, at_109, at_116, at_112, at_110, at_61, at_117, at_85, at_119, at_101, at_114, at_102, at_115}
 use Rattle.typed.proofs.deeds.read_deed.Goals as goal
-use Rattle.typed.proofs.deeds.read_deed.Goals.{in-default-default-via-then-rest-lt1, in-default-default-via-else-rest-lt1+then-rest-lt2+then-rest-lt97, in-default-default-via-else-rest-lt1+then-rest-lt2+else-rest-lt97+else-rest-lt123, in-default-default-via-else-rest-lt1+else-rest-lt2}
+use Rattle.typed.proofs.deeds.read_deed.Goals.{in_default-default-via-then-rest-lt1, in_default-default-via-else-rest-lt1+then-rest-lt2+then-rest-lt97, in_default-default-via-else-rest-lt1+then-rest-lt2+else-rest-lt97+else-rest-lt123, in_default-default-via-else-rest-lt1+else-rest-lt2}
 
-pub returns-in-default : goal.returns-in-default
-returns-in-default c = sym (ap deed (no_front c.args.cs.now (omega (arith, ltb-true))) ∙ at-nothing)
+pub returns-in_default : goal.returns-in_default
+returns-in_default c = sym (ap deed (no_front c.args.cs.now (omega (arith, ltb-true))) ∙ at-nothing)
 
-pub returns-in-err-given-lines : goal.returns-in-err-given-lines
-returns-in-err-given-lines c =
+pub returns-in_err-given_lines-in-97 : goal.returns-in_err-given_lines-in-97
+returns-in_err-given_lines-in-97 c =
     let cs = c.args.cs.now in
-    rw c.from-residual.ensures (behind_none 97 (λ ls ds. got (append ls) ds) given deed at_97 cs (omega (arith, ltb-false)) c.in-97.is c.in-err-given-lines.ensures)
+    rw c.from_residual.ensures (behind_none 97 (λ ls ds. got (append ls) ds) given deed at_97 cs (omega (arith, ltb-false)) c.in-97.is c.in_err-given_lines-in-97.ensures)
 
-pub returns-in-ok-given-lines : goal.returns-in-ok-given-lines
-returns-in-ok-given-lines c =
+pub returns-in_ok-given_lines-in-97 : goal.returns-in_ok-given_lines-in-97
+returns-in_ok-given_lines-in-97 c =
     let cs = c.args.cs.now in
-    behind_got 97 (λ ls ds. got (append ls) ds) given deed at_97 cs (omega (arith, ltb-false)) c.in-97.is _ [] c.in-ok-given-lines.ensures
+    behind_got 97 (λ ls ds. got (append ls) ds) given deed at_97 cs (omega (arith, ltb-false)) c.in-97.is _ [] c.in_ok-given_lines-in-97.ensures
 
-pub returns-in-err-given-lines-2 : goal.returns-in-err-given-lines-2
-returns-in-err-given-lines-2 c =
+pub returns-in_err-given_lines-in-105 : goal.returns-in_err-given_lines-in-105
+returns-in_err-given_lines-in-105 c =
     let cs = c.args.cs.now in
-    rw c.from-residual-in-err-given-lines-2.ensures (behind_none 105 (λ ls ds. got (insert ls) ds) given deed at_105 cs (omega (arith, ltb-false)) c.in-105.is c.in-err-given-lines-2.ensures)
+    rw c.from_residual-in_err-given_lines-in-105.ensures (behind_none 105 (λ ls ds. got (insert ls) ds) given deed at_105 cs (omega (arith, ltb-false)) c.in-105.is c.in_err-given_lines-in-105.ensures)
 
-pub returns-in-ok-given-lines-2 : goal.returns-in-ok-given-lines-2
-returns-in-ok-given-lines-2 c =
+pub returns-in_ok-given_lines-in-105 : goal.returns-in_ok-given_lines-in-105
+returns-in_ok-given_lines-in-105 c =
     let cs = c.args.cs.now in
-    behind_got 105 (λ ls ds. got (insert ls) ds) given deed at_105 cs (omega (arith, ltb-false)) c.in-105.is _ [] c.in-ok-given-lines-2.ensures
+    behind_got 105 (λ ls ds. got (insert ls) ds) given deed at_105 cs (omega (arith, ltb-false)) c.in-105.is _ [] c.in_ok-given_lines-in-105.ensures
 
-pub returns-in-err-given-lines-3 : goal.returns-in-err-given-lines-3
-returns-in-err-given-lines-3 c =
+pub returns-in_err-given_lines-in-99 : goal.returns-in_err-given_lines-in-99
+returns-in_err-given_lines-in-99 c =
     let cs = c.args.cs.now in
-    rw c.from-residual-in-err-given-lines-3.ensures (behind_none 99 (λ ls ds. got (change ls) ds) given deed at_99 cs (omega (arith, ltb-false)) c.in-99.is c.in-err-given-lines-3.ensures)
+    rw c.from_residual-in_err-given_lines-in-99.ensures (behind_none 99 (λ ls ds. got (change ls) ds) given deed at_99 cs (omega (arith, ltb-false)) c.in-99.is c.in_err-given_lines-in-99.ensures)
 
-pub returns-in-ok-given-lines-3 : goal.returns-in-ok-given-lines-3
-returns-in-ok-given-lines-3 c =
+pub returns-in_ok-given_lines-in-99 : goal.returns-in_ok-given_lines-in-99
+returns-in_ok-given_lines-in-99 c =
     let cs = c.args.cs.now in
-    behind_got 99 (λ ls ds. got (change ls) ds) given deed at_99 cs (omega (arith, ltb-false)) c.in-99.is _ [] c.in-ok-given-lines-3.ensures
+    behind_got 99 (λ ls ds. got (change ls) ds) given deed at_99 cs (omega (arith, ltb-false)) c.in-99.is _ [] c.in_ok-given_lines-in-99.ensures
 
 pub returns-in-100 : goal.returns-in-100
 returns-in-100 c =
@@ -81,55 +81,55 @@ returns-in-102 c =
     let cs = c.args.cs.now in
     behind 102 (ended files) deed at_102 cs (omega (arith, ltb-false)) c.in-102.is (whole deed_of c.alone-in-102.result) c.alone-in-102.ensures
 
-pub returns-in-err-to : goal.returns-in-err-to
-returns-in-err-to c =
+pub returns-in_err-to : goal.returns-in_err-to
+returns-in_err-to c =
     let cs = c.args.cs.now in
-    rw c.from-residual-in-err-to.ensures (behind_none 109 (λ a ds. ended (move a) ds) or_here deed at_109 cs (omega (arith, ltb-false)) c.in-109.is c.in-err-to.ensures)
+    rw c.from_residual-in_err-to.ensures (behind_none 109 (λ a ds. ended (move a) ds) or_here deed at_109 cs (omega (arith, ltb-false)) c.in-109.is c.in_err-to.ensures)
 
-pub returns-in-ok-to : goal.returns-in-ok-to
-returns-in-ok-to c =
+pub returns-in_ok-to : goal.returns-in_ok-to
+returns-in_ok-to c =
     let cs = c.args.cs.now in
-    ◌∙◌ {b = ended (move (address_of c.in-ok-to.to)) c.in-ok-to.rest.now} c.alone-in-109.ensures (behind_got 109 (λ a ds. ended (move a) ds) or_here deed at_109 cs (omega (arith, ltb-false)) c.in-109.is (address_of c.in-ok-to.to) c.in-ok-to.rest.now c.in-ok-to.ensures)
+    ◌∙◌ {b = ended (move (address_of c.in_ok-to.to)) c.in_ok-to.rest.now} c.alone-in-109.ensures (behind_got 109 (λ a ds. ended (move a) ds) or_here deed at_109 cs (omega (arith, ltb-false)) c.in-109.is (address_of c.in_ok-to.to) c.in_ok-to.rest.now c.in_ok-to.ensures)
 
-pub returns-in-err-to-2 : goal.returns-in-err-to-2
-returns-in-err-to-2 c =
+pub returns-in_err-to-2 : goal.returns-in_err-to-2
+returns-in_err-to-2 c =
     let cs = c.args.cs.now in
-    rw c.from-residual-in-err-to-2.ensures (behind_none 116 (λ a ds. ended (copy a) ds) or_here deed at_116 cs (omega (arith, ltb-false)) c.in-116.is c.in-err-to-2.ensures)
+    rw c.from_residual-in_err-to-2.ensures (behind_none 116 (λ a ds. ended (copy a) ds) or_here deed at_116 cs (omega (arith, ltb-false)) c.in-116.is c.in_err-to-2.ensures)
 
-pub returns-in-ok-to-2 : goal.returns-in-ok-to-2
-returns-in-ok-to-2 c =
+pub returns-in_ok-to-2 : goal.returns-in_ok-to-2
+returns-in_ok-to-2 c =
     let cs = c.args.cs.now in
-    ◌∙◌ {b = ended (copy (address_of c.in-ok-to-2.to)) c.in-ok-to-2.rest.now} c.alone-in-116.ensures (behind_got 116 (λ a ds. ended (copy a) ds) or_here deed at_116 cs (omega (arith, ltb-false)) c.in-116.is (address_of c.in-ok-to-2.to) c.in-ok-to-2.rest.now c.in-ok-to-2.ensures)
+    ◌∙◌ {b = ended (copy (address_of c.in_ok-to-2.to)) c.in_ok-to-2.rest.now} c.alone-in-116.ensures (behind_got 116 (λ a ds. ended (copy a) ds) or_here deed at_116 cs (omega (arith, ltb-false)) c.in-116.is (address_of c.in_ok-to-2.to) c.in_ok-to-2.rest.now c.in_ok-to-2.ensures)
 
-pub returns-in-err-file-name : goal.returns-in-err-file-name
-returns-in-err-file-name c =
+pub returns-in_err-file_name : goal.returns-in_err-file_name
+returns-in_err-file_name c =
     let cs = c.args.cs.now in
-    rw c.from-residual-in-err-file-name.ensures (behind_none 119 (λ n ds. got (save n) ds) a_file deed at_119 cs (omega (arith, ltb-false)) c.in-119.is c.in-err-file-name.ensures)
+    rw c.from_residual-in_err-file_name.ensures (behind_none 119 (λ n ds. got (save n) ds) a_file deed at_119 cs (omega (arith, ltb-false)) c.in-119.is c.in_err-file_name.ensures)
 
-pub returns-in-ok-file-name : goal.returns-in-ok-file-name
-returns-in-ok-file-name c =
+pub returns-in_ok-file_name : goal.returns-in_ok-file_name
+returns-in_ok-file_name c =
     let cs = c.args.cs.now in
-    behind_got 119 (λ n ds. got (save n) ds) a_file deed at_119 cs (omega (arith, ltb-false)) c.in-119.is _ [] c.in-ok-file-name.ensures
+    behind_got 119 (λ n ds. got (save n) ds) a_file deed at_119 cs (omega (arith, ltb-false)) c.in-119.is _ [] c.in_ok-file_name.ensures
 
-pub returns-in-err-file-name-2 : goal.returns-in-err-file-name-2
-returns-in-err-file-name-2 c =
+pub returns-in_err-file_name-2 : goal.returns-in_err-file_name-2
+returns-in_err-file_name-2 c =
     let cs = c.args.cs.now in
-    rw c.from-residual-in-err-file-name-2.ensures (behind_none 101 (λ n ds. got (edit n) ds) a_file deed at_101 cs (omega (arith, ltb-false)) c.in-101.is c.in-err-file-name-2.ensures)
+    rw c.from_residual-in_err-file_name-2.ensures (behind_none 101 (λ n ds. got (edit n) ds) a_file deed at_101 cs (omega (arith, ltb-false)) c.in-101.is c.in_err-file_name-2.ensures)
 
-pub returns-in-ok-file-name-2 : goal.returns-in-ok-file-name-2
-returns-in-ok-file-name-2 c =
+pub returns-in_ok-file_name-2 : goal.returns-in_ok-file_name-2
+returns-in_ok-file_name-2 c =
     let cs = c.args.cs.now in
-    behind_got 101 (λ n ds. got (edit n) ds) a_file deed at_101 cs (omega (arith, ltb-false)) c.in-101.is _ [] c.in-ok-file-name-2.ensures
+    behind_got 101 (λ n ds. got (edit n) ds) a_file deed at_101 cs (omega (arith, ltb-false)) c.in-101.is _ [] c.in_ok-file_name-2.ensures
 
-pub returns-in-err-file-name-3 : goal.returns-in-err-file-name-3
-returns-in-err-file-name-3 c =
+pub returns-in_err-file_name-3 : goal.returns-in_err-file_name-3
+returns-in_err-file_name-3 c =
     let cs = c.args.cs.now in
-    rw c.from-residual-in-err-file-name-3.ensures (behind_none 114 (λ n ds. got (load n) ds) a_file deed at_114 cs (omega (arith, ltb-false)) c.in-114.is c.in-err-file-name-3.ensures)
+    rw c.from_residual-in_err-file_name-3.ensures (behind_none 114 (λ n ds. got (load n) ds) a_file deed at_114 cs (omega (arith, ltb-false)) c.in-114.is c.in_err-file_name-3.ensures)
 
-pub returns-in-ok-file-name-3 : goal.returns-in-ok-file-name-3
-returns-in-ok-file-name-3 c =
+pub returns-in_ok-file_name-3 : goal.returns-in_ok-file_name-3
+returns-in_ok-file_name-3 c =
     let cs = c.args.cs.now in
-    behind_got 114 (λ n ds. got (load n) ds) a_file deed at_114 cs (omega (arith, ltb-false)) c.in-114.is _ [] c.in-ok-file-name-3.ensures
+    behind_got 114 (λ n ds. got (load n) ds) a_file deed at_114 cs (omega (arith, ltb-false)) c.in-114.is _ [] c.in_ok-file_name-3.ensures
 
 pub returns-in-115 : goal.returns-in-115
 returns-in-115 c =
@@ -141,19 +141,19 @@ returns-in-97-to-122 c =
     let cs = c.args.cs.now in
     sym (ap deed (front cs 107 (omega (arith, ltb-false)) c.in-107.is) ∙ a_mark (tail_of cs) (search rules) (search rules) (search rules))
 
-pub returns-in-default-default : goal.returns-in-default-default
-returns-in-default-default c =
+pub returns-in_default-default : goal.returns-in_default-default
+returns-in_default-default c =
     let cs = c.args.cs.now in
     sym (ap deed (front cs 107 (omega (arith, ltb-false)) c.in-107.is) ∙ no_mark (tail_of cs) (λ one low high.
-    elim c.in-default-default.branch [
-      | in-default-default-via-then-rest-lt1 w ↦ omega (arith, ltb-true, ltb-false)
-      | in-default-default-via-else-rest-lt1+then-rest-lt2+then-rest-lt97 w ↦ omega (arith, ltb-true, ltb-false)
-      | in-default-default-via-else-rest-lt1+then-rest-lt2+else-rest-lt97+else-rest-lt123 w ↦ omega (arith, ltb-true, ltb-false)
-      | in-default-default-via-else-rest-lt1+else-rest-lt2 w ↦ omega (arith, ltb-true, ltb-false)
+    elim c.in_default-default.branch [
+      | in_default-default-via-then-rest-lt1 w ↦ omega (arith, ltb-true, ltb-false)
+      | in_default-default-via-else-rest-lt1+then-rest-lt2+then-rest-lt97 w ↦ omega (arith, ltb-true, ltb-false)
+      | in_default-default-via-else-rest-lt1+then-rest-lt2+else-rest-lt97+else-rest-lt123 w ↦ omega (arith, ltb-true, ltb-false)
+      | in_default-default-via-else-rest-lt1+else-rest-lt2 w ↦ omega (arith, ltb-true, ltb-false)
     ]))
 
-pub returns-in-default-c : goal.returns-in-default-c
-returns-in-default-c c =
+pub returns-in_default-c : goal.returns-in_default-c
+returns-in_default-c c =
     let cs = c.args.cs.now in
     let other : Other (get_or cs 0 0) = record {
       not_97 = search rules;

@@ -5,30 +5,30 @@ use Rattle.typed.specs.Answer.{a_swap}
 use Rattle.typed.proofs.Fronts.{front, carried}
 use Rattle.typed.proofs.deeds.substitution.Goals as goal
 
-pub returns-in-err-pattern : goal.returns-in-err-pattern
-returns-in-err-pattern c =
-    rw c.from-residual.ensures
-    (carried (λ p ds. with_got (up_to 47 [] ds) (λ r es. with_got (which_of es) (λ k fs. got (swap p r k) fs))) c.in-err-pattern.ensures
+pub returns-in_err-pattern : goal.returns-in_err-pattern
+returns-in_err-pattern c =
+    rw c.from_residual.ensures
+    (carried (λ p ds. with_got (up_to 47 [] ds) (λ r es. with_got (which_of es) (λ k fs. got (swap p r k) fs))) c.in_err-pattern.ensures
     ∙ sym (ap a_swap (front c.args.cs.now 47 (search rules) (search rules))))
 
-pub returns-in-err-with : goal.returns-in-err-with
-returns-in-err-with c =
-    rw c.from-residual-in-err-with.ensures
-    (carried (λ r es. with_got (which_of es) (λ k fs. got (swap c.in-ok-pattern.pattern.now r k) fs)) c.in-err-with.ensures
-    ∙ carried (λ p ds. with_got (up_to 47 [] ds) (λ r es. with_got (which_of es) (λ k fs. got (swap p r k) fs))) c.in-ok-pattern.ensures
+pub returns-in_err-with : goal.returns-in_err-with
+returns-in_err-with c =
+    rw c.from_residual-in_err-with.ensures
+    (carried (λ r es. with_got (which_of es) (λ k fs. got (swap c.in_ok-pattern.pattern.now r k) fs)) c.in_err-with.ensures
+    ∙ carried (λ p ds. with_got (up_to 47 [] ds) (λ r es. with_got (which_of es) (λ k fs. got (swap p r k) fs))) c.in_ok-pattern.ensures
     ∙ sym (ap a_swap (front c.args.cs.now 47 (search rules) (search rules))))
 
-pub returns-in-err-which : goal.returns-in-err-which
-returns-in-err-which c =
-    rw c.from-residual-in-err-which.ensures
-    (carried (λ k fs. got (swap c.in-ok-pattern.pattern.now c.in-ok-with.with.now k) fs) c.in-err-which.ensures
-    ∙ carried (λ r es. with_got (which_of es) (λ k fs. got (swap c.in-ok-pattern.pattern.now r k) fs)) c.in-ok-with.ensures
-    ∙ carried (λ p ds. with_got (up_to 47 [] ds) (λ r es. with_got (which_of es) (λ k fs. got (swap p r k) fs))) c.in-ok-pattern.ensures
+pub returns-in_err-which : goal.returns-in_err-which
+returns-in_err-which c =
+    rw c.from_residual-in_err-which.ensures
+    (carried (λ k fs. got (swap c.in_ok-pattern.pattern.now c.in_ok-with.with.now k) fs) c.in_err-which.ensures
+    ∙ carried (λ r es. with_got (which_of es) (λ k fs. got (swap c.in_ok-pattern.pattern.now r k) fs)) c.in_ok-with.ensures
+    ∙ carried (λ p ds. with_got (up_to 47 [] ds) (λ r es. with_got (which_of es) (λ k fs. got (swap p r k) fs))) c.in_ok-pattern.ensures
     ∙ sym (ap a_swap (front c.args.cs.now 47 (search rules) (search rules))))
 
 pub returns : goal.returns
 returns c =
-    carried (λ k fs. got (swap c.in-ok-pattern.pattern.now c.in-ok-with.with.now k) fs) c.in-ok-which.ensures
-    ∙ carried (λ r es. with_got (which_of es) (λ k fs. got (swap c.in-ok-pattern.pattern.now r k) fs)) c.in-ok-with.ensures
-    ∙ carried (λ p ds. with_got (up_to 47 [] ds) (λ r es. with_got (which_of es) (λ k fs. got (swap p r k) fs))) c.in-ok-pattern.ensures
+    carried (λ k fs. got (swap c.in_ok-pattern.pattern.now c.in_ok-with.with.now k) fs) c.in_ok-which.ensures
+    ∙ carried (λ r es. with_got (which_of es) (λ k fs. got (swap c.in_ok-pattern.pattern.now r k) fs)) c.in_ok-with.ensures
+    ∙ carried (λ p ds. with_got (up_to 47 [] ds) (λ r es. with_got (which_of es) (λ k fs. got (swap p r k) fs))) c.in_ok-pattern.ensures
     ∙ sym (ap a_swap (front c.args.cs.now 47 (search rules) (search rules)))

@@ -14,4 +14,4 @@ pub loop-line-preserved : goal.loop-line-preserved
 loop-line-preserved c = c.loop-line.invariant ∙ one_on _ _ _ c.loop-line.before c.if-before-eq0.false c.in-Some.ensures
 
 pub returns : goal.returns
-returns c = sym (c.loop-line.invariant ∙ at_end _ c.loop-line.before c.in-default.ensures)
+returns c = sym (c.loop-line.invariant ∙ at_end _ c.loop-line.before c.in_default.ensures)
