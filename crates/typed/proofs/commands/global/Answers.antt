@@ -5,7 +5,7 @@ use Rattle.typed.specs.Meaning.{range_of}
 use Rattle.typed.specs.Meaning.{simple_of}
 use Rattle.typed.specs.Answer.{all_of}
 use Rattle.typed.proofs.Fronts.{tail_of, front, carried}
-use Rattle.typed.proofs.Shorter.{left_up_to}
+use Rattle.typed.proofs.Shorter.{left_up-to}
 use Rattle.typed.proofs.commands.global.Goals as goal
 
 pub returns-in_err-pattern : goal.returns-in_err-pattern
@@ -18,7 +18,7 @@ returns-in_err-pattern c =
 pub read_simple-requires : goal.read_simple-requires
 read_simple-requires c =
     let cs = c.args.cs.now in
-    omega (arith, left_up_to 47 _ (tail_of cs) _ c.in_ok-pattern.ensures, ap length (front cs 47 (search rules) (search rules)))
+    omega (arith, left_up-to 47 _ (tail_of cs) _ c.in_ok-pattern.ensures, ap length (front cs 47 (search rules) (search rules)))
 
 pub returns-in_err-simple : goal.returns-in_err-simple
 returns-in_err-simple c =

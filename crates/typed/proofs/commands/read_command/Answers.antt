@@ -6,7 +6,7 @@ use Rattle.typed.proofs.Fronts.{tail_of, front, carried}
 use Rattle.typed.proofs.Ranges.{NotFirst, left_range}
 use Rattle.typed.proofs.Wholes.{onward-plain, then_what, command_is, all_matching, all_others, once}
 use Rattle.typed.proofs.commands.read_command.Goals as goal
-use Rattle.typed.proofs.commands.read_command.Goals.{in_default-via-then-rest-lt1, in_default-via-else-rest-lt1+in_default·}
+use Rattle.typed.proofs.commands.read_command.Goals.{in_default-via-then-rest-lt1, in_default-via-else-rest-lt1+in_default-1}
 
 pub returns-in_err-range : goal.returns-in_err-range
 returns-in_err-range c =
@@ -41,19 +41,19 @@ returns-in-118 c =
     ∙ carried then_what {g = got (range_of c.in_ok-range.range) ds} {h = a_range c.args.cs.now} c.in_ok-range.ensures
     ∙ command_is c.args.cs.now
 
-pub returns-in_err-deed : goal.returns-in_err-deed
-returns-in_err-deed c =
+pub returns-in_err-deed-in_default : goal.returns-in_err-deed-in_default
+returns-in_err-deed-in_default c =
     let ds = c.in_ok-range.rest.now in
     let r = range_of c.in_ok-range.range in
-    let not-g : NotFirst 103 ds = λ some is. elim c.in_default.branch [ in_default-via-then-rest-lt1 w ↦ omega (arith, ltb-true) | in_default-via-else-rest-lt1+in_default· w ↦ search rules ] in
-    let not-v : NotFirst 118 ds = λ some is. elim c.in_default.branch [ in_default-via-then-rest-lt1 w ↦ omega (arith, ltb-true) | in_default-via-else-rest-lt1+in_default· w ↦ search rules ] in
-    rw c.from_residual-in_err-deed.ensures
-    (carried (onward-plain r) {g = none} {h = deed ds} c.in_err-deed.ensures ∙ once r ds not-g not-v ∙ carried then_what {g = got (range_of c.in_ok-range.range) ds} {h = a_range c.args.cs.now} c.in_ok-range.ensures ∙ command_is c.args.cs.now)
+    let not-g : NotFirst 103 ds = λ some is. elim c.in_default.branch [ in_default-via-then-rest-lt1 w ↦ omega (arith, ltb-true) | in_default-via-else-rest-lt1+in_default-1 w ↦ search rules ] in
+    let not-v : NotFirst 118 ds = λ some is. elim c.in_default.branch [ in_default-via-then-rest-lt1 w ↦ omega (arith, ltb-true) | in_default-via-else-rest-lt1+in_default-1 w ↦ search rules ] in
+    rw c.from_residual-in_err-deed-in_default.ensures
+    (carried (onward-plain r) {g = none} {h = deed ds} c.in_err-deed-in_default.ensures ∙ once r ds not-g not-v ∙ carried then_what {g = got (range_of c.in_ok-range.range) ds} {h = a_range c.args.cs.now} c.in_ok-range.ensures ∙ command_is c.args.cs.now)
 
-pub returns-in_ok-deed : goal.returns-in_ok-deed
-returns-in_ok-deed c =
+pub returns-in_ok-deed-in_default : goal.returns-in_ok-deed-in_default
+returns-in_ok-deed-in_default c =
     let ds = c.in_ok-range.rest.now in
     let r = range_of c.in_ok-range.range in
-    let not-g : NotFirst 103 ds = λ some is. elim c.in_default.branch [ in_default-via-then-rest-lt1 w ↦ omega (arith, ltb-true) | in_default-via-else-rest-lt1+in_default· w ↦ search rules ] in
-    let not-v : NotFirst 118 ds = λ some is. elim c.in_default.branch [ in_default-via-then-rest-lt1 w ↦ omega (arith, ltb-true) | in_default-via-else-rest-lt1+in_default· w ↦ search rules ] in
-    carried (onward-plain r) {g = got (deed_of c.in_ok-deed.deed) []} {h = deed ds} c.in_ok-deed.ensures ∙ once r ds not-g not-v ∙ carried then_what {g = got (range_of c.in_ok-range.range) ds} {h = a_range c.args.cs.now} c.in_ok-range.ensures ∙ command_is c.args.cs.now
+    let not-g : NotFirst 103 ds = λ some is. elim c.in_default.branch [ in_default-via-then-rest-lt1 w ↦ omega (arith, ltb-true) | in_default-via-else-rest-lt1+in_default-1 w ↦ search rules ] in
+    let not-v : NotFirst 118 ds = λ some is. elim c.in_default.branch [ in_default-via-then-rest-lt1 w ↦ omega (arith, ltb-true) | in_default-via-else-rest-lt1+in_default-1 w ↦ search rules ] in
+    carried (onward-plain r) {g = got (deed_of c.in_ok-deed-in_default.deed) []} {h = deed ds} c.in_ok-deed-in_default.ensures ∙ once r ds not-g not-v ∙ carried then_what {g = got (range_of c.in_ok-range.range) ds} {h = a_range c.args.cs.now} c.in_ok-range.ensures ∙ command_is c.args.cs.now

@@ -6,7 +6,7 @@ use Rattle.typed.specs.Answer.{whole, a_swap}
 use Rattle.typed.proofs.Fronts.{tail_of, front, no_front, behind, behind_none, behind_got}
 use Rattle.typed.proofs.Letters.{at-nothing, a_mark, no_mark, Other, at_other, at_97, at_105, at_99, at_100, at_106, at_109, at_116, at_112, at_110, at_61, at_117, at_85, at_119, at_101, at_114, at_102, at_115}
 use Rattle.typed.proofs.deeds.read_deed.Goals as goal
-use Rattle.typed.proofs.deeds.read_deed.Goals.{in_default-default-via-then-rest-lt1, in_default-default-via-else-rest-lt1+then-rest-lt2+then-rest-lt97, in_default-default-via-else-rest-lt1+then-rest-lt2+else-rest-lt97+else-rest-lt123, in_default-default-via-else-rest-lt1+else-rest-lt2}
+use Rattle.typed.proofs.deeds.read_deed.Goals.{in_default-rest-via-then-rest-lt1, in_default-rest-via-else-rest-lt1+then-rest-lt2+then-rest-lt97, in_default-rest-via-else-rest-lt1+then-rest-lt2+else-rest-lt97+else-rest-lt123, in_default-rest-via-else-rest-lt1+else-rest-lt2}
 
 pub returns-in_default : goal.returns-in_default
 returns-in_default c = sym (ap deed (no_front c.args.cs.now (omega (arith, ltb-true))) ∙ at-nothing)
@@ -81,55 +81,55 @@ returns-in-102 c =
     let cs = c.args.cs.now in
     behind 102 (ended files) deed at_102 cs (omega (arith, ltb-false)) c.in-102.is (whole deed_of c.alone-in-102.result) c.alone-in-102.ensures
 
-pub returns-in_err-to : goal.returns-in_err-to
-returns-in_err-to c =
+pub returns-in_err-to-in-109 : goal.returns-in_err-to-in-109
+returns-in_err-to-in-109 c =
     let cs = c.args.cs.now in
-    rw c.from_residual-in_err-to.ensures (behind_none 109 (λ a ds. ended (move a) ds) or_here deed at_109 cs (omega (arith, ltb-false)) c.in-109.is c.in_err-to.ensures)
+    rw c.from_residual-in_err-to-in-109.ensures (behind_none 109 (λ a ds. ended (move a) ds) or_here deed at_109 cs (omega (arith, ltb-false)) c.in-109.is c.in_err-to-in-109.ensures)
 
-pub returns-in_ok-to : goal.returns-in_ok-to
-returns-in_ok-to c =
+pub returns-in_ok-to-in-109 : goal.returns-in_ok-to-in-109
+returns-in_ok-to-in-109 c =
     let cs = c.args.cs.now in
-    ◌∙◌ {b = ended (move (address_of c.in_ok-to.to)) c.in_ok-to.rest.now} c.alone-in-109.ensures (behind_got 109 (λ a ds. ended (move a) ds) or_here deed at_109 cs (omega (arith, ltb-false)) c.in-109.is (address_of c.in_ok-to.to) c.in_ok-to.rest.now c.in_ok-to.ensures)
+    ◌∙◌ {b = ended (move (address_of c.in_ok-to-in-109.to)) c.in_ok-to-in-109.rest.now} c.alone-in-109.ensures (behind_got 109 (λ a ds. ended (move a) ds) or_here deed at_109 cs (omega (arith, ltb-false)) c.in-109.is (address_of c.in_ok-to-in-109.to) c.in_ok-to-in-109.rest.now c.in_ok-to-in-109.ensures)
 
-pub returns-in_err-to-2 : goal.returns-in_err-to-2
-returns-in_err-to-2 c =
+pub returns-in_err-to-in-116 : goal.returns-in_err-to-in-116
+returns-in_err-to-in-116 c =
     let cs = c.args.cs.now in
-    rw c.from_residual-in_err-to-2.ensures (behind_none 116 (λ a ds. ended (copy a) ds) or_here deed at_116 cs (omega (arith, ltb-false)) c.in-116.is c.in_err-to-2.ensures)
+    rw c.from_residual-in_err-to-in-116.ensures (behind_none 116 (λ a ds. ended (copy a) ds) or_here deed at_116 cs (omega (arith, ltb-false)) c.in-116.is c.in_err-to-in-116.ensures)
 
-pub returns-in_ok-to-2 : goal.returns-in_ok-to-2
-returns-in_ok-to-2 c =
+pub returns-in_ok-to-in-116 : goal.returns-in_ok-to-in-116
+returns-in_ok-to-in-116 c =
     let cs = c.args.cs.now in
-    ◌∙◌ {b = ended (copy (address_of c.in_ok-to-2.to)) c.in_ok-to-2.rest.now} c.alone-in-116.ensures (behind_got 116 (λ a ds. ended (copy a) ds) or_here deed at_116 cs (omega (arith, ltb-false)) c.in-116.is (address_of c.in_ok-to-2.to) c.in_ok-to-2.rest.now c.in_ok-to-2.ensures)
+    ◌∙◌ {b = ended (copy (address_of c.in_ok-to-in-116.to)) c.in_ok-to-in-116.rest.now} c.alone-in-116.ensures (behind_got 116 (λ a ds. ended (copy a) ds) or_here deed at_116 cs (omega (arith, ltb-false)) c.in-116.is (address_of c.in_ok-to-in-116.to) c.in_ok-to-in-116.rest.now c.in_ok-to-in-116.ensures)
 
-pub returns-in_err-file_name : goal.returns-in_err-file_name
-returns-in_err-file_name c =
+pub returns-in_err-file_name-in-119 : goal.returns-in_err-file_name-in-119
+returns-in_err-file_name-in-119 c =
     let cs = c.args.cs.now in
-    rw c.from_residual-in_err-file_name.ensures (behind_none 119 (λ n ds. got (save n) ds) a_file deed at_119 cs (omega (arith, ltb-false)) c.in-119.is c.in_err-file_name.ensures)
+    rw c.from_residual-in_err-file_name-in-119.ensures (behind_none 119 (λ n ds. got (save n) ds) a_file deed at_119 cs (omega (arith, ltb-false)) c.in-119.is c.in_err-file_name-in-119.ensures)
 
-pub returns-in_ok-file_name : goal.returns-in_ok-file_name
-returns-in_ok-file_name c =
+pub returns-in_ok-file_name-in-119 : goal.returns-in_ok-file_name-in-119
+returns-in_ok-file_name-in-119 c =
     let cs = c.args.cs.now in
-    behind_got 119 (λ n ds. got (save n) ds) a_file deed at_119 cs (omega (arith, ltb-false)) c.in-119.is _ [] c.in_ok-file_name.ensures
+    behind_got 119 (λ n ds. got (save n) ds) a_file deed at_119 cs (omega (arith, ltb-false)) c.in-119.is _ [] c.in_ok-file_name-in-119.ensures
 
-pub returns-in_err-file_name-2 : goal.returns-in_err-file_name-2
-returns-in_err-file_name-2 c =
+pub returns-in_err-file_name-in-101 : goal.returns-in_err-file_name-in-101
+returns-in_err-file_name-in-101 c =
     let cs = c.args.cs.now in
-    rw c.from_residual-in_err-file_name-2.ensures (behind_none 101 (λ n ds. got (edit n) ds) a_file deed at_101 cs (omega (arith, ltb-false)) c.in-101.is c.in_err-file_name-2.ensures)
+    rw c.from_residual-in_err-file_name-in-101.ensures (behind_none 101 (λ n ds. got (edit n) ds) a_file deed at_101 cs (omega (arith, ltb-false)) c.in-101.is c.in_err-file_name-in-101.ensures)
 
-pub returns-in_ok-file_name-2 : goal.returns-in_ok-file_name-2
-returns-in_ok-file_name-2 c =
+pub returns-in_ok-file_name-in-101 : goal.returns-in_ok-file_name-in-101
+returns-in_ok-file_name-in-101 c =
     let cs = c.args.cs.now in
-    behind_got 101 (λ n ds. got (edit n) ds) a_file deed at_101 cs (omega (arith, ltb-false)) c.in-101.is _ [] c.in_ok-file_name-2.ensures
+    behind_got 101 (λ n ds. got (edit n) ds) a_file deed at_101 cs (omega (arith, ltb-false)) c.in-101.is _ [] c.in_ok-file_name-in-101.ensures
 
-pub returns-in_err-file_name-3 : goal.returns-in_err-file_name-3
-returns-in_err-file_name-3 c =
+pub returns-in_err-file_name-in-114 : goal.returns-in_err-file_name-in-114
+returns-in_err-file_name-in-114 c =
     let cs = c.args.cs.now in
-    rw c.from_residual-in_err-file_name-3.ensures (behind_none 114 (λ n ds. got (load n) ds) a_file deed at_114 cs (omega (arith, ltb-false)) c.in-114.is c.in_err-file_name-3.ensures)
+    rw c.from_residual-in_err-file_name-in-114.ensures (behind_none 114 (λ n ds. got (load n) ds) a_file deed at_114 cs (omega (arith, ltb-false)) c.in-114.is c.in_err-file_name-in-114.ensures)
 
-pub returns-in_ok-file_name-3 : goal.returns-in_ok-file_name-3
-returns-in_ok-file_name-3 c =
+pub returns-in_ok-file_name-in-114 : goal.returns-in_ok-file_name-in-114
+returns-in_ok-file_name-in-114 c =
     let cs = c.args.cs.now in
-    behind_got 114 (λ n ds. got (load n) ds) a_file deed at_114 cs (omega (arith, ltb-false)) c.in-114.is _ [] c.in_ok-file_name-3.ensures
+    behind_got 114 (λ n ds. got (load n) ds) a_file deed at_114 cs (omega (arith, ltb-false)) c.in-114.is _ [] c.in_ok-file_name-in-114.ensures
 
 pub returns-in-115 : goal.returns-in-115
 returns-in-115 c =
@@ -141,15 +141,15 @@ returns-in-97-to-122 c =
     let cs = c.args.cs.now in
     sym (ap deed (front cs 107 (omega (arith, ltb-false)) c.in-107.is) ∙ a_mark (tail_of cs) (search rules) (search rules) (search rules))
 
-pub returns-in_default-default : goal.returns-in_default-default
-returns-in_default-default c =
+pub returns-in_default-rest : goal.returns-in_default-rest
+returns-in_default-rest c =
     let cs = c.args.cs.now in
     sym (ap deed (front cs 107 (omega (arith, ltb-false)) c.in-107.is) ∙ no_mark (tail_of cs) (λ one low high.
-    elim c.in_default-default.branch [
-      | in_default-default-via-then-rest-lt1 w ↦ omega (arith, ltb-true, ltb-false)
-      | in_default-default-via-else-rest-lt1+then-rest-lt2+then-rest-lt97 w ↦ omega (arith, ltb-true, ltb-false)
-      | in_default-default-via-else-rest-lt1+then-rest-lt2+else-rest-lt97+else-rest-lt123 w ↦ omega (arith, ltb-true, ltb-false)
-      | in_default-default-via-else-rest-lt1+else-rest-lt2 w ↦ omega (arith, ltb-true, ltb-false)
+    elim c.in_default-rest.branch [
+      | in_default-rest-via-then-rest-lt1 w ↦ omega (arith, ltb-true, ltb-false)
+      | in_default-rest-via-else-rest-lt1+then-rest-lt2+then-rest-lt97 w ↦ omega (arith, ltb-true, ltb-false)
+      | in_default-rest-via-else-rest-lt1+then-rest-lt2+else-rest-lt97+else-rest-lt123 w ↦ omega (arith, ltb-true, ltb-false)
+      | in_default-rest-via-else-rest-lt1+else-rest-lt2 w ↦ omega (arith, ltb-true, ltb-false)
     ]))
 
 pub returns-in_default-c : goal.returns-in_default-c
