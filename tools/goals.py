@@ -12,6 +12,12 @@ def strings(v, out):
     elif isinstance(v, dict):
         for k, x in v.items():
             out.add(k); strings(x, out)
+def kept_path(f, line):
+    """A line with its names turned, but for the path of a use line."""
+    m = re.match(r"(use Rattle\.[^{ ]*)(.*)$", line)
+    return m.group(1) + TOKEN.sub(f, m.group(2)) if m else TOKEN.sub(f, line)
+
+
 def main():
     for crate in sys.argv[1:]:
         d = tempfile.mkdtemp()
@@ -63,7 +69,7 @@ def main():
                         new = "".join(b if b in ("-via-", "+") else (one(b) or b) for b in bits)
                         return new
                     return w
-                new = "\n".join(l if l.startswith("use Rattle.std") else TOKEN.sub(turn, l) for l in text.split("\n"))
+                new = "\n".join(l if l.startswith("use Rattle.std") else kept_path(turn, l) for l in text.split("\n"))
                 new = re.sub(r"\boverflow-(add|sub|mul|shl|shr|cast|neg|step)-", r"overflow_\1-", new)
                 new = re.sub(r"\bin-(default|ok|err)\b", r"in_\1", new)
                 new = re.sub(r"\b(slice|offset)-bounds\b", r"\1_bounds", new)
@@ -78,7 +84,7 @@ def main():
                     for a, b in dashed:
                         if a in w: w = re.sub(r"(?<![A-Za-z0-9])" + re.escape(a) + r"(?![A-Za-z0-9])", b, w)
                     return w
-                new = "\n".join(l if l.startswith("use Rattle.std") else TOKEN.sub(source, l) for l in new.split("\n"))
+                new = "\n".join(l if l.startswith("use Rattle.std") else kept_path(source, l) for l in new.split("\n"))
                 if new != text:
                     n += 1; open(path, "w").write(new)
         print(crate, n, "files")

@@ -21,7 +21,7 @@ source_to new_entries f = omega arith
 source_to (copied a b) f = f.1
 
 splice-fits : (c : Splice) → SpliceFits c → pages.SpliceFits c
-splice-fits c f = record { from = f.from; gone = f.gone; source_from = source_from c.source f.source; source_to = source_to c.source f.source; beside = f.beside }
+splice-fits c f = record { from = f.from; gone = f.gone; source_from = source_from c.source f.source; source_to = source_to c.source f.source }
 
 also-fits : (a : Also) → AlsoFits a → pages.AlsoFits a
 also-fits nothing_else f = tt

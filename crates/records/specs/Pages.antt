@@ -6,8 +6,8 @@
 --   copy    kind, part, the line's length 2, index of the directory 4, up to 503 bytes
 --   commit  kind, 13 numbers of 4: from, gone, the source's kind and two numbers, count, current line, weight, what else is said and three numbers, the
 --           length of a file's name; and the name
-use Rattle.std.specs.Prelude.{◌≡◌, ℕ, zero, suc, ◌+◌, ◌-◌, ◌*◌, ◌/◌, ◌%◌, ◌<◌, ◌≤◌, Bool, true, false, ◌&&◌, List, [], ◌∷◌, ◌++◌, length, take, drop, replicate, ◌==◌, nat_lt, slice_index}
-use Rattle.plain.specs.Pattern.{pick, every}
+use Rattle.std.specs.Prelude.{◌≡◌, ℕ, zero, suc, ◌+◌, ◌-◌, ◌*◌, ◌/◌, ◌%◌, ◌<◌, ◌≤◌, Bool, true, false, ◌&&◌, List, [], ◌∷◌, ◌++◌, length, take, drop, replicate, ◌==◌, nat_le, nat_lt, slice_index}
+use Rattle.plain.specs.Pattern.{pick, or, every}
 use Rattle.plain.specs.Device.{Page, lesser}
 use Rattle.journal.specs.Log.{Source, no_entries, new_entries, copied, Splice, Piece, piece, Rec, head, line, copy, commit, broken}
 use Rattle.journal.specs.Small.{Entry, entry, Also, nothing_else, push, slot, News}
@@ -32,6 +32,15 @@ four_at p k = slice_index p k * 16777216 + slice_index p (k + 1) * 65536 + slice
 -- the rest of a page, of n bytes before the seal
 abbrev pub closed : ℕ → List ℕ → List ℕ
 closed n bs = bs ++ (replicate (n - length bs) 0 ++ 1 ∷ [])
+
+-- a splice copies no entry that it takes out: what it copies lies before these, or behind them
+abbrev pub source_beside : ℕ → ℕ → Source → Bool
+source_beside p q no_entries = true
+source_beside p q new_entries = true
+source_beside p q (copied x y) = nat_le x y && or (nat_le y p) (nat_le (p + q) x)
+
+abbrev pub beside : Splice → Bool
+beside c = source_beside c.from c.gone c.source
 
 -- the parts of a commit, by number
 abbrev pub source_kind : Source → ℕ

@@ -18,6 +18,6 @@ pub returns-in-Write : goal.returns-in-Write
 unfolding default_bounds
 returns-in-Write c = search rules
 
-pub returns-in-default : goal.returns-in-default
+pub returns-in_default : goal.returns-in_default
 unfolding default_bounds
-returns-in-default c = search rules
+returns-in_default c = search rules

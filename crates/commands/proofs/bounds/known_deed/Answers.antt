@@ -14,6 +14,6 @@ pub returns-in-Write : goal.returns-in-Write
 unfolding core_deed
 returns-in-Write c = search rules
 
-pub returns-in-default : goal.returns-in-default
+pub returns-in_default : goal.returns-in_default
 unfolding core_deed
-returns-in-default c = search rules
+returns-in_default c = search rules

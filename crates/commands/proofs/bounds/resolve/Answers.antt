@@ -4,15 +4,15 @@ use Rattle.commands.specs.Resolve.{base_plain, counted, resolve_plain}
 use Rattle.commands.proofs.Handed.{then_lost, then-on}
 use Rattle.commands.proofs.bounds.resolve.Goals as goal
 
-pub returns-in-err-line : goal.returns-in-err-line
+pub returns-in_err-line : goal.returns-in_err-line
 unfolding resolve_plain
-returns-in-err-line c =
+returns-in_err-line c =
     let a = address_of c.args.address in
-    let p = err_from_is_err_and c.from-residual.result c.from-residual.ensures.1 in
-    rw (p.1, p.2) (then_lost (base_plain c.args.count c.args.current a) (counted c.args.count a) _ c.in-err-line.ensures)
+    let p = err_from_is_err_and c.from_residual.result c.from_residual.ensures.1 in
+    rw (p.1, p.2) (then_lost (base_plain c.args.count c.args.current a) (counted c.args.count a) _ c.in_err-line.ensures)
 
 pub returns : goal.returns
 unfolding resolve_plain
 returns c =
     let a = address_of c.args.address in
-    then-on (base_plain c.args.count c.args.current a) (counted c.args.count a) c.in-ok-line.line _ c.in-ok-line.ensures c.step.ensures
+    then-on (base_plain c.args.count c.args.current a) (counted c.args.count a) c.in_ok-line.line _ c.in_ok-line.ensures c.step.ensures

@@ -15,25 +15,25 @@ returns-then-not-known c =
     (sym c.known.ensures ∙ c.if-not-known.true)
 
 pub write-requires : goal.write-requires
-write-requires c = (search rules, range-ordered c.command-bounds-range.result c.args.sizes.count c.args.sizes.current (simple_of c.args.simple) c.command-bounds-range.ensures)
+write-requires c = record { sizes_fit = search rules; range_ordered = range-ordered c.command_bounds-range.result c.args.sizes.count c.args.sizes.current (simple_of c.args.simple) c.command_bounds-range.ensures }
 
-pub returns-in-err-range : goal.returns-in-err-range
-returns-in-err-range c =
-    let p = err_from_is_err_and c.from-residual.result c.from-residual.ensures.1 in
+pub returns-in_err-range-in_default : goal.returns-in_err-range-in_default
+returns-in_err-range-in_default c =
+    let p = err_from_is_err_and c.from_residual.result c.from_residual.ensures.1 in
     let s = sizes_as c.args.sizes in
     let x = c.args.simple in
     let g = given_of (deed_of x.deed) in
     let k = known_by c.known.result (simple_of x) c.known.ensures c.if-not-known.false in
     rw (p.1, p.2)
-    (then_lost (command_bounds s.count s.at (simple_of x)) (λ b. decide_lines s g b (deed_of x.deed)) _ c.in-err-range.ensures
-    ∙ lines_decided s (slot_as c.args.slot) g x (command_bounds s.count s.at (simple_of x)) k refl c.in-default.not-Write c.in-default.not-Edit c.in-default.not-Files)
+    (then_lost (command_bounds s.count s.at (simple_of x)) (λ b. decide_lines s g b (deed_of x.deed)) _ c.in_err-range-in_default.ensures
+    ∙ lines_decided s (slot_as c.args.slot) g x (command_bounds s.count s.at (simple_of x)) k refl c.in_default.not-Write c.in_default.not-Edit c.in_default.not-Files)
 
 pub returns-in-Write : goal.returns-in-Write
 returns-in-Write c =
     let x = c.args.simple in
     let k = known_by c.known.result (simple_of x) c.known.ensures c.if-not-known.false in
     c.write.ensures
-    ∙ save_decided (sizes_as c.args.sizes) (slot_as c.args.slot) (given_of (deed_of x.deed)) x (checked_by bounds_as c.command-bounds-range.result) k c.command-bounds-range.ensures
+    ∙ save_decided (sizes_as c.args.sizes) (slot_as c.args.slot) (given_of (deed_of x.deed)) x (checked_by bounds_as c.command_bounds-range.result) k c.command_bounds-range.ensures
     c.in-Write.field-0 c.in-Write.is
 
 pub returns-in-Edit : goal.returns-in-Edit
@@ -41,7 +41,7 @@ returns-in-Edit c =
     let x = c.args.simple in
     let k = known_by c.known.result (simple_of x) c.known.ensures c.if-not-known.false in
     c.edit.ensures
-    ∙ edit_decided (sizes_as c.args.sizes) (slot_as c.args.slot) (given_of (deed_of x.deed)) x (checked_by bounds_as c.command-bounds-range.result) k c.command-bounds-range.ensures
+    ∙ edit_decided (sizes_as c.args.sizes) (slot_as c.args.slot) (given_of (deed_of x.deed)) x (checked_by bounds_as c.command_bounds-range.result) k c.command_bounds-range.ensures
     c.in-Edit.field-0 c.in-Edit.is
 
 pub returns-in-Files : goal.returns-in-Files
@@ -49,14 +49,14 @@ returns-in-Files c =
     let x = c.args.simple in
     let k = known_by c.known.result (simple_of x) c.known.ensures c.if-not-known.false in
     ap good c.say.ensures
-    ∙ files_decided (sizes_as c.args.sizes) (slot_as c.args.slot) (given_of (deed_of x.deed)) x (checked_by bounds_as c.command-bounds-range.result) k c.command-bounds-range.ensures
+    ∙ files_decided (sizes_as c.args.sizes) (slot_as c.args.slot) (given_of (deed_of x.deed)) x (checked_by bounds_as c.command_bounds-range.result) k c.command_bounds-range.ensures
     c.in-Files.is
 
-pub returns-in-ok-range : goal.returns-in-ok-range
-returns-in-ok-range c =
+pub returns-in_ok-range-in_default : goal.returns-in_ok-range-in_default
+returns-in_ok-range-in_default c =
     let s = sizes_as c.args.sizes in
     let x = c.args.simple in
     let g = given_of (deed_of x.deed) in
     let k = known_by c.known.result (simple_of x) c.known.ensures c.if-not-known.false in
-    then-on (command_bounds s.count s.at (simple_of x)) (λ b. decide_lines s g b (deed_of x.deed)) (bounds_as c.in-ok-range.field-0) _ c.in-ok-range.ensures c.plan-lines.ensures
-    ∙ lines_decided s (slot_as c.args.slot) g x (command_bounds s.count s.at (simple_of x)) k refl c.in-default.not-Write c.in-default.not-Edit c.in-default.not-Files
+    then-on (command_bounds s.count s.at (simple_of x)) (λ b. decide_lines s g b (deed_of x.deed)) (bounds_as c.in_ok-range-in_default.field-0) _ c.in_ok-range-in_default.ensures c.plan_lines.ensures
+    ∙ lines_decided s (slot_as c.args.slot) g x (command_bounds s.count s.at (simple_of x)) k refl c.in_default.not-Write c.in_default.not-Edit c.in_default.not-Files

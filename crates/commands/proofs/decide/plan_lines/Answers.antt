@@ -51,6 +51,6 @@ pub returns-in-GoTo : goal.returns-in-GoTo
 unfolding decide_lines lines_given
 returns-in-GoTo c = search rules
 
-pub returns-in-default : goal.returns-in-default
+pub returns-in_default : goal.returns-in_default
 unfolding decide_lines lines_given
-returns-in-default c = search rules
+returns-in_default c = search rules
