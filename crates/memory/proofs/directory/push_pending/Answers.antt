@@ -14,6 +14,6 @@ pub returns : goal.returns
 unfolding with_pending
 returns c = record {
   done = sym (lt-ltb c.args.j 65536 c.if-j.false);
-  memory = ap (with_cells c.args.memory.now) (c.put-above.ensures
+  memory = ap (with_cells c.args.memory.now) (c.put_above.ensures
       ∙ ap (λ e. set (cells_in c.args.memory.now) c.args.j (with_high (get_or (cells_in c.args.memory.now) c.args.j 0) e)) c.entry.ensures);
 }

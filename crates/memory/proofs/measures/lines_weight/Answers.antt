@@ -5,22 +5,22 @@ use Rattle.memory.proofs.Texting.{text-long}
 use Rattle.memory.proofs.Counting.{Summed, summed-on, summed-place, summed_all, ends_later, weight_bound, records_bound}
 use Rattle.memory.proofs.measures.lines_weight.Goals as goal
 
-pub line-end-end-requires : goal.line-end-end-requires
-line-end-end-requires c =
+pub line_end-end-requires : goal.line_end-end-requires
+line_end-end-requires c =
     let t = text_of c.args.len c.args.memory.now in
     let l = text-long c.args.len c.args.memory.now c.requires.0 c.requires.1 in
     (c.requires.0, (summed-place (λ n. 64 + n) 65 c.args.lines t c.args.len c.loop-more.weight c.loop-more.at c.loop-more.more l c.loop-more-test.true c.loop-more.invariant, c.requires.1))
 
 pub loop-more-smaller : goal.loop-more-smaller
 loop-more-smaller c =
-    ends_later c.args.len c.loop-more.at c.line-end-end.result c.loop-more.more c.loop-more-test.true c.line-end-end.ensures.behind c.line-end-end.ensures.within
+    ends_later c.args.len c.loop-more.at c.line_end-end.result c.loop-more.more c.loop-more-test.true c.line_end-end.ensures.behind c.line_end-end.ensures.within
 
 pub loop-more-preserved : goal.loop-more-preserved
 loop-more-preserved c =
     let t = text_of c.args.len c.args.memory.now in
     let l = text-long c.args.len c.args.memory.now c.requires.0 c.requires.1 in
-    summed-on (λ n. 64 + n) 65 c.args.lines t weight_bound c.args.len c.loop-more.weight c.loop-more.at c.line-end-end.result (64 + (c.line-end-end.result - c.loop-more.at))
-    c.loop-more.more l c.loop-more-test.true c.loop-more.invariant c.line-end-end.ensures.end refl
+    summed-on (λ n. 64 + n) 65 c.args.lines t weight_bound c.args.len c.loop-more.weight c.loop-more.at c.line_end-end.result (64 + (c.line_end-end.result - c.loop-more.at))
+    c.loop-more.more l c.loop-more-test.true c.loop-more.invariant c.line_end-end.ensures.end refl
 
 pub returns : goal.returns
 returns c =

@@ -10,7 +10,7 @@ loop-i-init c = (refl, omega arith)
 
 pub loop-i-preserved : goal.loop-i-preserved
 loop-i-preserved c = (
-  ap (λ n. n + c.file-at-lines.result.lines) c.loop-i.invariant.0
-      ∙ added_more (λ e. e.lines) c.loop-i.i (files_in c.args.memory.now) c.file-at-lines.result.lines (ap (λ f. f.lines) c.file-at-lines.ensures),
-  omega (arith, c.loop-i.invariant.1, ap (λ f. f.lines) c.file-at-lines.ensures),
+  ap (λ n. n + c.file_at-lines.result.lines) c.loop-i.invariant.0
+      ∙ added_more (λ e. e.lines) c.loop-i.i (files_in c.args.memory.now) c.file_at-lines.result.lines (ap (λ f. f.lines) c.file_at-lines.ensures),
+  omega (arith, c.loop-i.invariant.1, ap (λ f. f.lines) c.file_at-lines.ensures),
 )

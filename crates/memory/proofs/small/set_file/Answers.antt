@@ -8,7 +8,7 @@ use Rattle.memory.proofs.small.set_file.Goals as goal
 pub returns-then-place : goal.returns-then-place
 unfolding file_set
 returns-then-place c =
-    let p : c.place-of-place.result ≡ lesser c.args.i c.args.files = c.place-of-place.ensures in
+    let p : c.place_of-place.result ≡ lesser c.args.i c.args.files = c.place_of-place.ensures in
     simp (can_not-place c.args.files c.args.i (length c.args.name.now) (omega (arith, p, c.if-place.true))) record { count = refl; memory = refl }
 
 pub returns-then-name-gt-NAMES : goal.returns-then-name-gt-NAMES
@@ -19,11 +19,11 @@ returns-then-name-gt-NAMES c =
 pub returns : goal.returns
 unfolding file_set with_file
 returns c =
-    let p : c.place-of-place.result ≡ lesser c.args.i c.args.files = c.place-of-place.ensures in
+    let p : c.place_of-place.result ≡ lesser c.args.i c.args.files = c.place_of-place.ensures in
     let m = c.args.memory.now in
     let bs = c.args.name.now in
     simp (can_both c.args.files c.args.i (length c.args.name.now) (omega (arith, p, c.if-place.false)) c.if-name-gt-NAMES.false) record {
-      count = ap Some c.files-with.ensures;
-      memory = ap (with_files m) (c.put-file-at.ensures
+      count = ap Some c.files_with.ensures;
+      memory = ap (with_files m) (c.put_file_at.ensures
           ∙ ap (λ i. with_part (67 * i) 67 (files_in m) (file_numbers bs c.args.lines c.args.size (part (67 * i) 67 (files_in m)))) p);
     }

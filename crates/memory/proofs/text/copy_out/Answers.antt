@@ -3,8 +3,8 @@ use Rattle.std.proofs.lemmas.List.{length-take-le}
 use Rattle.memory.specs.Sections.{low}
 use Rattle.memory.proofs.text.copy_out.Goals as goal
 
-pub copy-low-requires : goal.copy-low-requires
-copy-low-requires c = length-take-le c.args.n c.args.out.now (omega arith) ∙ sym c.text-cells.ensures.long
+pub copy_low-requires : goal.copy_low-requires
+copy_low-requires c = length-take-le c.args.n c.args.out.now (omega arith) ∙ sym c.text_cells.ensures.long
 
 pub returns : goal.returns
-returns c = ap (λ t. t ++ drop c.args.n c.args.out.now) (c.copy-low.ensures ∙ ap (map low) c.text-cells.ensures.cells)
+returns c = ap (λ t. t ++ drop c.args.n c.args.out.now) (c.copy_low.ensures ∙ ap (map low) c.text_cells.ensures.cells)

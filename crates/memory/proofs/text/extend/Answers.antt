@@ -11,4 +11,4 @@ pub returns : goal.returns
 unfolding extended
 returns c =
     simp (le-leb (c.args.at + length c.args.bytes.now) 65536 (omega arith))
-    record { done = refl; memory = ap (with_cells c.args.memory.now) c.lay-from.ensures }
+    record { done = refl; memory = ap (with_cells c.args.memory.now) c.lay_from.ensures }

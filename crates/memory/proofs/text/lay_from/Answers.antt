@@ -9,6 +9,6 @@ returns c =
     let bs = c.args.bytes.now in
     let cs = c.args.cells.now in
     let k : at + length bs - at ≡ length bs = omega arith in
-    ap (λ t. take at cs ++ (t ++ drop (at + length bs - at) (drop at cs))) c.lay-low.ensures
+    ap (λ t. take at cs ++ (t ++ drop (at + length bs - at) (drop at cs))) c.lay_low.ensures
     ∙ ap (λ n. take at cs ++ (laid_low bs (take n (drop at cs)) ++ drop n (drop at cs))) k
     ∙ ap (λ t. take at cs ++ t) (laid_front bs (drop at cs))

@@ -7,7 +7,7 @@ use Rattle.memory.specs.declared.job.Lines.{Lines}
 use Rattle.memory.proofs.text.line_end.Goals as goal
 
 pub newline-requires : goal.newline-requires
-newline-requires c = omega (arith, c.text-cells.ensures.long)
+newline-requires c = omega (arith, c.text_cells.ensures.long)
 
 -- where it ends is within the text
 ended : (ls : Lines) (from len r : ℕ) (m : List ℕ) → length m ≡ 262144 → from ≤ len → len ≤ 65536 → r ≡ line_end ls from (text_of len m)
@@ -21,7 +21,7 @@ pub returns-in-Given : goal.returns-in-Given
 unfolding text_of
 returns-in-Given c =
     let r = ended c.args.lines c.args.from c.args.len c.newline.result c.args.memory.now c.requires.0 (omega arith) (omega arith)
-    (c.newline.ensures ∙ ap (λ t. newline c.args.from (drop c.args.from (map low t))) c.text-cells.ensures.cells
+    (c.newline.ensures ∙ ap (λ t. newline c.args.from (drop c.args.from (map low t))) c.text_cells.ensures.cells
     ∙ ap (λ l. line_end l c.args.from (text_of c.args.len c.args.memory.now)) (sym c.in-Given.is)) in
     record { end = r.0; behind = r.1.0; within = r.1.1 }
 

@@ -79,5 +79,5 @@ pub returns-in-19 : goal.returns-in-19
 unfolding phase_of
 returns-in-19 c = sym (ap phase_of c.in-19.is)
 
-pub returns-in-default : goal.returns-in-default
-returns-in-default c = phase_else c.args.n (λ h. omega arith)
+pub returns-in_default : goal.returns-in_default
+returns-in_default c = phase_else c.args.n (λ h. omega arith)
