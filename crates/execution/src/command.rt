@@ -4,7 +4,7 @@ ghost use Rattle.std.specs.Prelude.{◌≡◌, ◌-◌, ◌<◌, ◌≤◌, leng
 ghost use Rattle.typed.specs.Meaning.{lines_in, deed_of, simple_of};
 ghost use Rattle.journal.specs.Small.{Small};
 ghost use Rattle.commands.specs.Code.{plan_as};
-ghost use Rattle.commands.specs.Turn.{lines_given as lines_typed, name_given as name_Typed};
+ghost use Rattle.commands.specs.Turn.{lines_given as lines_typed, name_given as name_typed};
 ghost use Rattle.engine.specs.Machine.{went_at_once as gone_at_once};
 ghost use Rattle.memory.specs.Registers.{Tame};
 ghost use Rattle.memory.specs.Sections.{extended, name_kept};
@@ -21,7 +21,7 @@ use typed::{Command, Deed, Simple};
 
 /// The name of a file that a deed has, if it has one.
 fn name_given<'a>(deed: Deed<'a>) -> &'a [u8]
-    ensures { result.now ≡ name_Typed (deed_of deed.entry) }
+    ensures { result.now ≡ name_typed (deed_of deed.entry) }
 {
     match deed {
         Deed::Write(name) => name,

@@ -4,10 +4,11 @@ use native.Mathlib.Nat.{div-div-eq-div-mul}
 use lib.ListN.{length-replicate}
 use lib.Seq.{take-append_seam}
 use Rattle.std.proofs.lemmas.List.{get_or_at}
-use Rattle.std.proofs.lemmas.Bool.{lt-ltb, and_from}
-use Rattle.plain.specs.Pattern.{pick, every}
+use Rattle.std.proofs.lemmas.Bool.{lt-ltb, ltb-true, and_from, and_parts}
+use Rattle.plain.specs.Pattern.{pick, every, all_bytes}
 use Rattle.plain.proofs.Basics.{every_append}
-use Rattle.records.specs.Pages.{two, four, fours, closed, Bytes, SmallNumber}
+use Rattle.records.specs.Pages.{two, four, fours, two_at, four_at, closed, Bytes, SmallNumber}
+use Rattle.records.specs.Checked.{cut}
 
 -- read back
 pub two_back : (n : ℕ) → n < 65536 → n / 256 % 256 * 256 + n % 256 ≡ n
@@ -58,3 +59,52 @@ closed_seal n bs h =
 
 pub closed-back : (n k : ℕ) (bs : List ℕ) → length bs ≡ k → take k (closed n bs) ≡ bs
 closed-back n k bs e = ap (λ m. take m (closed n bs)) (sym e) ∙ take-append_seam bs (replicate (n - length bs) 0 ++ 1 ∷ [])
+
+-- a page of bytes has a byte in each place, and numbers that fit
+pub bytes_all : (bs : List ℕ) → ((i : ℕ) → get_or bs i 0 < 256) → Bytes bs
+bytes_all [] h = refl
+bytes_all (b ∷ bs) h = and_from (ltb b 256) (all_bytes bs) (lt-ltb b 256 (h 0)) (bytes_all bs (λ i. h (suc i)))
+
+pub byte_at : (bs : List ℕ) → Bytes bs → (i : ℕ) → get_or bs i 0 < 256
+byte_at [] h i = omega arith
+byte_at (b ∷ bs) h zero = ltb-true b 256 (and_parts (ltb b 256) (all_bytes bs) h).0
+byte_at (b ∷ bs) h (suc i) = byte_at bs (and_parts (ltb b 256) (all_bytes bs) h).1 i
+
+pub two-small : (p : List ℕ) → Bytes p → (k : ℕ) → two_at p k < 65536
+two-small p f k =
+    let a = byte_at p f k in
+    let b = byte_at p f (k + 1) in
+    omega arith
+
+pub four-small : (p : List ℕ) → Bytes p → (k : ℕ) → SmallNumber (four_at p k)
+four-small p f k =
+    let a = byte_at p f k in
+    let b = byte_at p f (k + 1) in
+    let c = byte_at p f (k + 2) in
+    let d = byte_at p f (k + 3) in
+    omega arith
+
+pub bytes_take : (n : ℕ) (bs : List ℕ) → Bytes bs → Bytes (take n bs)
+bytes_take zero bs h = refl
+bytes_take (suc n) [] h = refl
+bytes_take (suc n) (b ∷ bs) h = let q = and_parts (ltb b 256) (every (λ c. ltb c 256) bs) h in and_from _ _ q.0 (bytes_take n bs q.1)
+
+pub bytes_drop : (n : ℕ) (bs : List ℕ) → Bytes bs → Bytes (drop n bs)
+bytes_drop zero bs h = h
+bytes_drop (suc n) [] h = refl
+bytes_drop (suc n) (b ∷ bs) h = bytes_drop n bs (and_parts (ltb b 256) (every (λ c. ltb c 256) bs) h).1
+
+-- numbers that are cut to what a page has of them
+pub two_cut : (n : ℕ) → two (n % 65536) ≡ two n
+two_cut n =
+    let a : n % 65536 / 256 % 256 ≡ n / 256 % 256 = omega arith in
+    let b : n % 65536 % 256 ≡ n % 256 = omega arith in
+    λ i. a i ∷ b i ∷ []
+
+pub four_cut : (n : ℕ) → four (cut n) ≡ four n
+four_cut n =
+    let a : cut n / 16777216 % 256 ≡ n / 16777216 % 256 = omega arith in
+    let b : cut n / 65536 % 256 ≡ n / 65536 % 256 = omega arith in
+    let c : cut n / 256 % 256 ≡ n / 256 % 256 = omega arith in
+    let d : cut n % 256 ≡ n % 256 = omega arith in
+    λ i. a i ∷ b i ∷ c i ∷ d i ∷ []

@@ -5,3 +5,5 @@ pub mod Laws
 pub mod Writing
 pub mod Commits
 pub mod Fits
+pub mod Read
+pub mod Checks

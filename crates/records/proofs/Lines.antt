@@ -1,12 +1,12 @@
 -- A line in records. Assumes nothing.
 use Rattle.std.proofs.Common.{◌≡◌, ℕ, zero, suc, ◌+◌, ◌-◌, ◌*◌, ◌/◌, ◌<◌, ◌≤◌, min, Bool, true, false, ◌&&◌, ltb, List, [], ◌∷◌, ◌++◌, length, get_or, take, drop, sym, refl, ap, ◌∙◌, subst, arith, length-drop, length-take, take_all, drop-drop, take-add}
-use Rattle.std.proofs.lemmas.Bool.{and_parts, and_from}
 use Rattle.plain.specs.Pattern.{pick, every}
 use Rattle.plain.specs.Device.{lesser}
 use Rattle.journal.specs.Log.{Piece, piece, no_piece, Packed, pieces_of}
 use Rattle.records.specs.Lines.{records_for, share, piece_at, pieces, packed, joined}
 use Rattle.records.specs.Pages.{Bytes, PieceFits}
 use Rattle.records.specs.Laws.{PackedRight}
+use Rattle.records.proofs.Digits.{bytes_take, bytes_drop}
 
 length-pieces : (k j : ℕ) (bs : List ℕ) → length (pieces k j bs) ≡ k
 unfolding pieces
@@ -28,16 +28,6 @@ unfolding pieces
 get_or-pieces zero j i bs h = absurd (omega arith)
 get_or-pieces (suc k) j zero bs h = ap (piece_at bs) (omega arith)
 get_or-pieces (suc k) j (suc i) bs h = get_or-pieces k (suc j) i bs (omega arith) ∙ ap (piece_at bs) (omega arith)
-
-bytes_take : (n : ℕ) (bs : List ℕ) → Bytes bs → Bytes (take n bs)
-bytes_take zero bs h = refl
-bytes_take (suc n) [] h = refl
-bytes_take (suc n) (b ∷ bs) h = let q = and_parts (ltb b 256) (every (λ c. ltb c 256) bs) h in and_from _ _ q.0 (bytes_take n bs q.1)
-
-bytes_drop : (n : ℕ) (bs : List ℕ) → Bytes bs → Bytes (drop n bs)
-bytes_drop zero bs h = h
-bytes_drop (suc n) [] h = refl
-bytes_drop (suc n) (b ∷ bs) h = bytes_drop n bs (and_parts (ltb b 256) (every (λ c. ltb c 256) bs) h).1
 
 share_is : (n j : ℕ) → min 503 (n - 503 * j) ≡ share n j
 share_is n j = grind arith

@@ -34,7 +34,7 @@ head-back g n a b =
     sealed_by (head_page g n) refl ∙ (λ i. head (x i) (y i))
 
 -- lines
-share-small : (n j : ℕ) → share n j ≤ 503
+pub share-small : (n j : ℕ) → share n j ≤ 503
 share-small n j = grind arith
 
 line_seal : (kind j n i : ℕ) (bs : List ℕ) → length bs ≤ 503 → get_or (line_page kind j n i bs) 511 0 ≡ 1

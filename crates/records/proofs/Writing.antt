@@ -3,7 +3,8 @@ use Rattle.std.proofs.Common.{◌≡◌, ℕ, zero, suc, ◌+◌, ◌-◌, ◌*�
 use borrow.Rule.Slice.PartMut.{put_mid}
 use lib.ListN.{length-replicate, length-map}
 use Rattle.std.proofs.lemmas.List.{map_more, take_more, drop_more, set_at, take_all, drop_all, length-take-le, take_at, drop_at, drop-drop}
-use Rattle.records.specs.Pages.{four, fours, closed, recopied}
+use Rattle.journal.specs.Log.{Piece, copy}
+use Rattle.records.specs.Pages.{two, four, fours, closed, recopied, page_of}
 
 -- cells, one after the other
 pub laid : (f : ℕ → ℕ) (cells out : List ℕ) (i : ℕ) → i < length cells → i < length out → set (map f (take i cells) ++ drop i out) i (f (get_or cells i 0)) ≡ map f (take (i + 1) cells) ++ drop (i + 1) out
@@ -79,3 +80,15 @@ recopied_written i p out a b e l h x y z =
     let m : length ((3 ∷ a) ++ b) ≡ 8 = length-append (3 ∷ a) b ∙ ap (λ t. length (3 ∷ a) + length t) y ∙ ap (λ k. k + 4) n in
     ap (λ t. put_mid 8 504 (put_mid 4 4 t b) e) (written_first 3 3 a out (omega arith)) ∙ ap (λ t. put_mid 8 504 t e) (written_next 4 4 8 (3 ∷ a) b out n refl)
     ∙ written_next 8 504 512 ((3 ∷ a) ++ b) e out m refl ∙ ap (λ t. t ++ drop 512 out) (append_assoc (3 ∷ a) b e ∙ (λ k. 3 ∷ (x k ++ (y k ++ z k))))
+
+-- a copy of a piece that was read
+pub copy_written :
+    (i j : ℕ) (q b : Piece) (out a f e : List ℕ) → q ≡ b → 512 ≤ length out → a ≡ 3 ∷ j ∷ two q.long → f ≡ four i →
+    e ≡ closed (length (take 504 (drop 8 (put_mid 4 4 (a ++ drop 4 out) f))) - 1) q.bytes →
+    put_mid 8 504 (put_mid 4 4 (a ++ drop 4 out) f) e ≡ page_of (copy i j b) ++ drop 512 out
+unfolding page_of
+copy_written i j q b out a f e x h y z r =
+    let l : length a ≡ 4 = ap length y in
+    let mid = put_mid 4 4 (a ++ drop 4 out) f in
+    let w : mid ≡ ((3 ∷ j ∷ two q.long) ++ four i) ++ drop 8 out = written_next 4 4 8 a f out l refl ∙ (λ k. (y k ++ z k) ++ drop 8 out) in
+    page-closed 8 503 ((3 ∷ j ∷ two q.long) ++ four i) q.bytes out mid e w refl refl h r ∙ ap (λ (t : Piece). (3 ∷ j ∷ two t.long ++ (four i ++ closed 503 t.bytes)) ++ drop 512 out) x

@@ -5,8 +5,8 @@ ghost use Rattle.records.specs.Laws.{LinePacked, PageBack, RecopiedRight, TornBr
 mod reader;
 mod writer;
 
-pub use reader::decode;
-pub use writer::{encode_commit, encode_head, encode_line, line_to_copy, records_for, share_of};
+pub use reader::{decode, decode_checked, piece_read};
+pub use writer::{copy_line, encode_commit, encode_head, encode_line, line_to_copy, records_for, share_of};
 
 /// How many bytes a page has.
 pub const PAGE: usize = 512;

@@ -1,8 +1,9 @@
 //! Reading a page.
 ghost use Rattle.std.specs.Prelude.{◌≡◌, ℕ, ◌+◌, ◌<◌, ◌≤◌, true, length, slice_index};
-ghost use Rattle.records.specs.Pages.{also_in_page, four_at, name_in_page, news_in_page, piece_in_page, record_of, sealed, source_by, splice_in_page};
+ghost use Rattle.records.specs.Checked.{checked_record_of};
+ghost use Rattle.records.specs.Pages.{also_in_page, beside as a_beside, four_at, name_in_page, news_in_page, piece_in_page, record_of, sealed, source_by, splice_in_page};
 ghost use Rattle.records.specs.Values.{also_of, news_of, piece_of, rec_of, source_of, splice_of};
-ghost use Rattle.journal.specs.Log.{commit as a_commit};
+ghost use Rattle.journal.specs.Log.{commit as a_commit, piece_in};
 
 use crate::{Also, COMMIT, COPY, HEAD, LINE, Numbers, PAGE, Piece, Record, SEAL, Source, Splice};
 
@@ -122,5 +123,51 @@ pub fn decode(page: &[u8]) -> Record<'_>
         },
         COMMIT => commit(page),
         _ => Record::Broken,
+    }
+}
+
+/// Whether what a splice copies lies before the entries that it takes out, or behind them.
+fn beside(splice: Splice) -> bool
+    ensures { result ≡ a_beside (splice_of splice) }
+{
+    match splice.source {
+        Source::Nothing | Source::New => true,
+        Source::Copied { from, to } => {
+            let end = splice.from as u64 + splice.gone as u64;
+            from <= to && (to <= splice.from || end <= from as u64)
+        }
+    }
+}
+
+/// The record that a page holds, if it can be believed: a commit that copies what it takes out is broken, too.
+pub fn decode_checked(page: &[u8]) -> Record<'_>
+    ensures { rec_of result ≡ checked_record_of page.now }
+{
+    let record = decode(page);
+    match record {
+        Record::Commit { splice, .. } => {
+            if beside(splice) {
+                record
+            } else {
+                Record::Broken
+            }
+        }
+        _ => record,
+    }
+}
+
+/// The share of a line that a page holds, which is nothing where it holds no line.
+pub fn piece_read(page: &[u8]) -> Piece<'_>
+    ensures piece { piece_of result ≡ piece_in (checked_record_of page.now) }
+    ensures short { length result.bytes.now ≤ 503 }
+{
+    match decode_checked(page) {
+        Record::Line(piece) => piece,
+        Record::Copy { piece, .. } => piece,
+        _ => Piece {
+            part: 0,
+            long: 0,
+            bytes: &[],
+        },
     }
 }

@@ -1,10 +1,12 @@
 //! Writing a page.
 ghost use Rattle.std.specs.Prelude.{◌≡◌, ℕ, ◌+◌, ◌-◌, ◌*◌, ◌<◌, ◌≤◌, List, [], ◌∷◌, ◌++◌, length, drop, slice_set};
-ghost use Rattle.journal.specs.Log.{commit as a_commit, head as a_head, line as a_line, piece as a_Piece};
+ghost use Rattle.journal.specs.Log.{commit as a_commit, copy as a_copy, head as a_head, line as a_line, piece as a_piece, piece_in};
 ghost use Rattle.records.specs.Lines.{records_for, share};
 ghost use Rattle.records.specs.Pages.{also_kind, also_number, closed, entry_in, fours, name_in, page_of, recopied, source_from, source_kind, source_to};
+ghost use Rattle.records.specs.Checked.{checked_record_of};
 ghost use Rattle.records.specs.Values.{also_of, low_bytes, name_for, news_of, source_of, splice_of};
 
+use crate::reader::piece_read;
 use crate::{Also, COMMIT, COPY, HEAD, LINE, Numbers, PAGE, SHARE, Source, Splice};
 
 /// How many records a line of so many bytes takes.
@@ -53,6 +55,17 @@ fn close(out: &mut [u8], cells: &[u64])
     seal(out);
 }
 
+/// The same for bytes that were read.
+fn close_bytes(out: &mut [u8], bytes: &[u8])
+    requires { length bytes.now < length out.old }
+    ensures { out.new ≡ closed (length out.old - 1) bytes.now }
+{
+    let end = out.len() - 1;
+    out[..bytes.len()].copy_from_slice(bytes);
+    out[bytes.len()..end].fill(0);
+    seal(out);
+}
+
 /// Numbers of four bytes each, the highest first.
 fn put_numbers(out: &mut [u8], numbers: &[u32])
     requires { length out.old ≡ 4 * length numbers.now }
@@ -75,7 +88,7 @@ pub fn encode_head(out: &mut [u8], generation: u32, entries: u32)
 /// A part of a line that is so long, whose bytes lie in cells of memory.
 pub fn encode_line(out: &mut [u8], part: u8, long: u16, cells: &[u64])
     requires { (512 ≤ length out.old) × (length cells.now ≤ 503) }
-    ensures { out.new ≡ page_of (a_line part (a_Piece long (low_bytes cells.now))) ++ drop 512 out.old }
+    ensures { out.new ≡ page_of (a_line part (a_piece long (low_bytes cells.now))) ++ drop 512 out.old }
 {
     let [high, low] = long.to_be_bytes();
     out[0..8].copy_from_slice(&[LINE, part, high, low, 0, 0, 0, 0]);
@@ -91,6 +104,21 @@ pub fn line_to_copy(read: &[u8], out: &mut [u8], index: u32)
     out[1..4].copy_from_slice(&read[1..4]);
     out[4..8].copy_from_slice(&index.to_be_bytes());
     out[8..PAGE].copy_from_slice(&read[8..PAGE]);
+}
+
+/// The page of a copy for an entry of the directory, over the front of what is put on, from the page of a line, or of a copy, that was read; and how long that
+/// line is. A page that holds no line gives a copy of nothing.
+pub fn copy_line(read: &[u8], out: &mut [u8], index: u32, part: u8) -> u16
+    requires { 512 ≤ length out.old }
+    ensures laid { out.new ≡ page_of (a_copy index part (piece_in (checked_record_of read.now))) ++ drop 512 out.old }
+    ensures long { result ≡ (piece_in (checked_record_of read.now)).long }
+{
+    let piece = piece_read(read);
+    let [high, low] = piece.long.to_be_bytes();
+    out[0..4].copy_from_slice(&[COPY, part, high, low]);
+    out[4..8].copy_from_slice(&index.to_be_bytes());
+    close_bytes(&mut out[8..PAGE], piece.bytes);
+    piece.long
 }
 
 fn source_numbers(source: Source) -> (u32, u32, u32)
