@@ -20,7 +20,7 @@ use Rattle.commands.specs.Smalls.{smalls_of}
 use Rattle.engine.specs.State.{House, Phase, carry_read, compact_fast, switched, at_phase, with_carrying, carrying_of, passive}
 use Rattle.engine.specs.Fits.{Fits, Word, ReplayFits}
 use Rattle.engine.specs.Packing.{records_of, packed, records_on}
-use Rattle.engine.specs.Machine.{machine, entry_of, go_on, carry, carry_entry, next_entry, switch}
+use Rattle.engine.specs.Machine.{machine_by, entry_of, go_on, carry, carry_entry, next_entry, switch}
 use Rattle.engine.proofs.Facts.{Codec, OffAt, Quiet, lines_of_kept}
 use Rattle.engine.proofs.Course.{go_next, asks, fastens, begins, chosen}
 use Rattle.engine.proofs.Devices.{cycle-bounds, firm-off, firm-fasten, side_first, side_second, sides_apart, sides_is, all_room, anew-here, anew-room, fastened-room}
@@ -55,8 +55,8 @@ module _ {codec : Codec} {R m : ℕ} {live : Bool} {d : Device} {x : House} {k :
         };
         not-busy = refl;
         cursor = refl;
-        log = subst (λ z. lifecycle.Active updated no_state ReplayFits record_of codec.torn true d₁ y z (next_generation x.tapes.generation) x.tapes.other x.store.dir (lines_of_kept k) (smalls_of k)) e
-            (lifecycle.copying_changes updated no_state ReplayFits record_of codec.torn b.log none_left);
+        log = subst (λ z. lifecycle.Active updated no_state ReplayFits codec.reading codec.torn true d₁ y z (next_generation x.tapes.generation) x.tapes.other x.store.dir (lines_of_kept k) (smalls_of k)) e
+            (lifecycle.copying_changes updated no_state ReplayFits codec.reading codec.torn b.log none_left);
       }
 
   fits-switch : (ph : Phase) → Fits x → Fits (switch (at_phase ph x))
@@ -82,15 +82,15 @@ module _ {codec : Codec} {R m : ℕ} {live : Bool} {d : Device} {x : House} {k :
   after_entry = all_longer d (passive x) (copy_pages i (line_of (directory k) i) 0 (records_of (length (line_of (directory k) i))))
 
   moved_log : (o₁ : ℕ) → o₁ ≡ x.tapes.other + records_of (length (line_of (directory k) i)) →
-      lifecycle.Copying updated no_state ReplayFits record_of codec.torn live after_entry x.tapes.active (passive x) x.tapes.generation m o₁ (set x.store.dir i (position (passive x) x.tapes.other)) (lines_of_kept k) (smalls_of k)
+      lifecycle.Copying updated no_state ReplayFits codec.reading codec.torn live after_entry x.tapes.active (passive x) x.tapes.generation m o₁ (set x.store.dir i (position (passive x) x.tapes.other)) (lines_of_kept k) (smalls_of k)
   moved_log o₁ e =
       let l : List ℕ = line_of (directory k) i in
       let n : ℕ = records_of (length l) in
       let ps : List Page = copy_pages i l 0 n in
       let below : i < length (directory k) = let q = busy-long codec b in omega arith in
       let f : x.tapes.other + length ps ≡ o₁ = let q = length-copy_pages i l 0 n in omega arith in
-      subst (λ z. lifecycle.Copying updated no_state ReplayFits record_of codec.torn live after_entry x.tapes.active (passive x) x.tapes.generation m z (set x.store.dir i (position (passive x) x.tapes.other)) (lines_of_kept k) (smalls_of k)) f
-      (lifecycle.copying_carries updated no_state ReplayFits record_of codec.torn ps i (packed l) b.log (copies_are codec i l word (line-fits (directory k) i (directory-fits k sound))) (packs-at (directory k) i below))
+      subst (λ z. lifecycle.Copying updated no_state ReplayFits codec.reading codec.torn live after_entry x.tapes.active (passive x) x.tapes.generation m z (set x.store.dir i (position (passive x) x.tapes.other)) (lines_of_kept k) (smalls_of k)) f
+      (lifecycle.copying_carries updated no_state ReplayFits codec.reading codec.torn ps i (packed l) b.log (copies_are codec i l word (line-fits (directory k) i (directory-fits k sound))) (packs-at (directory k) i below))
 
   moved-busy : (o₁ : ℕ) → o₁ ≡ x.tapes.other + records_of (length (line_of (directory k) i)) → o₁ ≤ R → Behind x.tapes.active i x.store.dir →
       BusyAt codec R m live after_entry (moved x i x.tapes.other o₁) k
@@ -107,7 +107,7 @@ module _ {codec : Codec} {R m : ℕ} {live : Bool} {d : Device} {x : House} {k :
           at_most = b.powered.at_most;
           light = b.powered.light;
           small = b.powered.small;
-          other_fits = let q = sym (length-map (tape_of after_entry y).records record_of) ∙ ap length (layout_new_is record_of log₁.layout) ∙ log₁.next-used in omega arith;
+          other_fits = let q = sym (length-map (tape_of after_entry y).records codec.reading) ∙ ap length (layout_new_is codec.reading log₁.layout) ∙ log₁.next-used in omega arith;
           used-fits = b.powered.used-fits;
         };
         long-fits = b.long-fits;
@@ -140,14 +140,14 @@ module _ {codec : Codec} {R m : ℕ} {live : Bool} {d : Device} {x : House} {k :
 
 -- BOTH WAYS ON, from the state x with q entries that may be carried
 abbrev pub OnSomeAt : Codec → ℕ → ℕ → Bool → (Device → List (List ℕ) → Type 0) → (House → Device → List (List ℕ) → ℕ → ℕ → Type 0) → List (List ℕ) → Kept → ℕ → ℕ → House → Type 0
-OnSomeAt codec R m live Stop End ss k q r x = (x₁ : House) (d₁ : Device) (r₁ : ℕ) → SomeCarriedAt codec R m live k q r x x₁ d₁ r₁ → Goes machine Stop End (after_did d₁ ss r₁ (go_on x₁))
+OnSomeAt codec R m live Stop End ss k q r x = (x₁ : House) (d₁ : Device) (r₁ : ℕ) → SomeCarriedAt codec R m live k q r x x₁ d₁ r₁ → Goes (machine_by codec.reading) Stop End (after_did d₁ ss r₁ (go_on x₁))
 
 abbrev pub OnAll : Codec → ℕ → (Device → List (List ℕ) → Type 0) → (House → Device → List (List ℕ) → ℕ → ℕ → Type 0) → List (List ℕ) → Kept → ℕ → ℕ → House → Type 0
-OnAll codec R Stop End ss k q r x = (x₁ : House) (d₁ : Device) (r₁ : ℕ) → AllCarried codec R k q r x x₁ d₁ r₁ → Goes machine Stop End (after_did d₁ ss r₁ (go_on x₁))
+OnAll codec R Stop End ss k q r x = (x₁ : House) (d₁ : Device) (r₁ : ℕ) → AllCarried codec R k q r x x₁ d₁ r₁ → Goes (machine_by codec.reading) Stop End (after_did d₁ ss r₁ (go_on x₁))
 
 module _
     (codec : Codec) (R m : ℕ) (live : Bool) (Stop : Device → List (List ℕ) → Type 0) (End : House → Device → List (List ℕ) → ℕ → ℕ → Type 0) (ss : List (List ℕ)) (k : Kept)
-    (can_stop : (d : Device) → ((cs : List ℕ) → OffAt R (stopped d cs) k) → Stop d ss) (sound : Sound k)
+    (can_stop : (d : Device) → ((cs : List ℕ) → OffAt codec R (stopped d cs) k) → Stop d ss) (sound : Sound k)
   where
     abbrev line_at : ℕ → List ℕ
     line_at i = line_of (directory k) i
@@ -156,8 +156,8 @@ module _
     entry-goes : (x : House) (d : Device) (r i : ℕ) → Fits x → BusyAt codec R m live d x k → NextEntry x.tapes.active x.tapes.cursor i x.store.dir → i < length x.store.dir →
         x.tapes.other + records_on x.tapes.active x.store.dir (directory k) ≤ R →
         ((o₁ : ℕ) (d₁ : Device) (r₁ : ℕ) → Fits (moved x i x.tapes.other o₁) → BusyAt codec R m live d₁ (moved x i x.tapes.other o₁) k →
-        o₁ ≡ x.tapes.other + records_of (length (line_at i)) → r₁ ≤ r + 6 → Goes machine Stop End (after_did d₁ ss r₁ (carry (moved x i x.tapes.other o₁)))) →
-        Goes machine Stop End (after_did d ss r (did (at_phase carry_read (with_carrying (carrying_of i 0 0 x.tapes.other x.carrying.quota x.carrying.waking) x)) (read (entry_of x i).tape (entry_of x i).at)))
+        o₁ ≡ x.tapes.other + records_of (length (line_at i)) → r₁ ≤ r + 6 → Goes (machine_by codec.reading) Stop End (after_did d₁ ss r₁ (carry (moved x i x.tapes.other o₁)))) →
+        Goes (machine_by codec.reading) Stop End (after_did d ss r (did (at_phase carry_read (with_carrying (carrying_of i 0 0 x.tapes.other x.carrying.quota x.carrying.waking) x)) (read (entry_of x i).tape (entry_of x i).at)))
     entry-goes x d r i f b found there room cont =
         let l : List ℕ = line_at i in
         let y : ℕ = passive x in
@@ -182,11 +182,11 @@ module _
           on = on;
           firm = busy-firm codec b;
           reads = λ j h.
-              lifecycle.copying_reads updated no_state ReplayFits record_of codec.torn i j (packed l) b.log codec.empty there (packs-at (directory k) i (omega arith))
+              lifecycle.copying_reads updated no_state ReplayFits codec.reading codec.torn i j (packed l) b.log codec.empty there (packs-at (directory k) i (omega arith))
               (let q = packed-long l in omega arith) ∙ packed-at l j h;
         } in
-        asks d t a (subst (λ z. z < 2) (sym on) (side_first sides))
-        (subst (λ z. Goes machine Stop End (going (reading x i 0 0 o o) d (page (read_record d t z)) ss (suc r))) (add-zero a)
+        asks codec.reading d t a (subst (λ z. z < 2) (sym on) (side_first sides))
+        (subst (λ z. Goes (machine_by codec.reading) Stop End (going (reading x i 0 0 o o) d (page (read_record d t z)) ss (suc r))) (add-zero a)
         (pieces_go codec R Stop End ss k can_stop b.powered.at_most n 0 0 o o (suc r) entry (omega arith) (omega arith) start (busy-other codec b) (omega arith)
         (λ o₁ r₁ p q.
         cont o₁ (all_longer d y (copy_pages i l 0 (suc n))) r₁ (fits_moved b sound i there word o₁ (omega arith) (omega arith) f)
@@ -195,8 +195,8 @@ module _
 
     -- none is left
     switch-goes : (q : ℕ) (x : House) (d : Device) (r : ℕ) → Fits x → BusyAt codec R m live d x k → Behind x.tapes.active (length x.store.dir) x.store.dir → x.tapes.other ≤ R →
-        ((x₁ : House) (d₁ : Device) (r₁ : ℕ) → AllCarried codec R k q r x x₁ d₁ r₁ → Goes machine Stop End (after_did d₁ ss r₁ (go_on x₁))) →
-        Goes machine Stop End (after_did d ss r (did (at_phase compact_fast x) (fasten (passive x))))
+        ((x₁ : House) (d₁ : Device) (r₁ : ℕ) → AllCarried codec R k q r x x₁ d₁ r₁ → Goes (machine_by codec.reading) Stop End (after_did d₁ ss r₁ (go_on x₁))) →
+        Goes (machine_by codec.reading) Stop End (after_did d ss r (did (at_phase compact_fast x) (fasten (passive x))))
     switch-goes q x d r f b none_left room cont =
         let t : ℕ = x.tapes.active in
         let y : ℕ = passive x in
@@ -204,10 +204,10 @@ module _
         let firm = busy-firm codec b in
         let x₁ : House = switch (at_phase switched x) in
         let quiet = switch_quiet b switched room none_left in
-        fastens d y (side_second sides)
-        (go_next compact_fast refl (fits-phase compact_fast f) (can_stop (fastened d y) (firm-off codec R k (firm-fasten codec R k firm)))
-        (begins (fastened d y) t (side_first sides)
-        (go_next switched refl (fits-phase switched f) (can_stop (anew (fastened d y) t) (firm-off codec R k (quiet-firm codec (quiet_at codec quiet))))
+        fastens codec.reading d y (side_second sides)
+        (go_next codec.reading compact_fast refl (fits-phase compact_fast f) (can_stop (fastened d y) (firm-off codec R k (firm-fasten codec R k firm)))
+        (begins codec.reading (fastened d y) t (side_first sides)
+        (go_next codec.reading switched refl (fits-phase switched f) (can_stop (anew (fastened d y) t) (firm-off codec R k (quiet-firm codec (quiet_at codec quiet))))
         (cont x₁ (anew (fastened d y) t) r (record {
           quiet = quiet;
           fits = fits-switch b switched f;
@@ -257,9 +257,9 @@ module _
 
     -- as many as may be
     pub carry-goes : (q : ℕ) (x : House) (d : Device) (r : ℕ) → x.carrying.quota ≡ q → Fits x → BusyAt codec R m live d x k →
-        x.tapes.other + records_on x.tapes.active x.store.dir (directory k) ≤ R → OnSomeAt codec R m live Stop End ss k q r x → OnAll codec R Stop End ss k q r x → Goes machine Stop End (after_did d ss r (carry x))
+        x.tapes.other + records_on x.tapes.active x.store.dir (directory k) ≤ R → OnSomeAt codec R m live Stop End ss k q r x → OnAll codec R Stop End ss k q r x → Goes (machine_by codec.reading) Stop End (after_did d ss r (carry x))
     carry-goes zero x d r e f b room some all =
-        chosen (λ z. Goes machine Stop End (after_did d ss r z)) (eqb x.carrying.quota 0) true _ _ (eq-eqb x.carrying.quota 0 e)
+        chosen (λ z. Goes (machine_by codec.reading) Stop End (after_did d ss r z)) (eqb x.carrying.quota 0) true _ _ (eq-eqb x.carrying.quota 0 e)
         (some x d r (record {
           busy = b;
           fits = f;
@@ -274,7 +274,7 @@ module _
     carry-goes (suc q) x d r e f b room some all =
         let i : ℕ = next_entry x in
         let found : NextEntry x.tapes.active x.tapes.cursor i x.store.dir = next_entry_is x.tapes.active x.tapes.cursor x.store.dir b.cursor b.behind in
-        chosen (λ z. Goes machine Stop End (after_did d ss r z)) (eqb x.carrying.quota 0) false _ _ (ne_eqb x.carrying.quota 0 (λ z. omega arith))
+        chosen (λ z. Goes (machine_by codec.reading) Stop End (after_did d ss r z)) (eqb x.carrying.quota 0) false _ _ (ne_eqb x.carrying.quota 0 (λ z. omega arith))
         (entry found
         (λ there on o₁ d₁ r₁ f₁ b₁ g c.
         let share = records_on-gone x.tapes.active x.store.dir (directory k) i (position (passive x) x.tapes.other) there (busy-long codec b) on (sides_apart b.log.layout.sides) in
@@ -285,12 +285,12 @@ module _
         entry : NextEntry x.tapes.active x.tapes.cursor (next_entry x) x.store.dir →
             (next_entry x < length x.store.dir → (get_or x.store.dir (next_entry x) hole).tape ≡ x.tapes.active →
             (o₁ : ℕ) (d₁ : Device) (r₁ : ℕ) → Fits (moved x (next_entry x) x.tapes.other o₁) → BusyAt codec R m live d₁ (moved x (next_entry x) x.tapes.other o₁) k →
-            o₁ ≡ x.tapes.other + records_of (length (line_at (next_entry x))) → r₁ ≤ r + 6 → Goes machine Stop End (after_did d₁ ss r₁ (carry (moved x (next_entry x) x.tapes.other o₁)))) →
-            Goes machine Stop End (after_did d ss r (carry_entry (next_entry x) x))
+            o₁ ≡ x.tapes.other + records_of (length (line_at (next_entry x))) → r₁ ≤ r + 6 → Goes (machine_by codec.reading) Stop End (after_did d₁ ss r₁ (carry (moved x (next_entry x) x.tapes.other o₁)))) →
+            Goes (machine_by codec.reading) Stop End (after_did d ss r (carry_entry (next_entry x) x))
         entry found rest = go (ltb (next_entry x) (length x.store.dir)) refl
           where
             go : (c : Bool) → ltb (next_entry x) (length x.store.dir) ≡ c →
-                Goes machine Stop End (after_did d ss r (pick c
+                Goes (machine_by codec.reading) Stop End (after_did d ss r (pick c
                 (did (at_phase carry_read (with_carrying (carrying_of (next_entry x) 0 0 x.tapes.other x.carrying.quota x.carrying.waking) x)) (read (entry_of x (next_entry x)).tape (entry_of x (next_entry x)).at))
                 (did (at_phase compact_fast x) (fasten (passive x)))))
             go true z = let there = ltb-true (next_entry x) (length x.store.dir) z in entry-goes x d r (next_entry x) f b found there room (rest there (found.hits there))

@@ -26,13 +26,13 @@ module _ (codec : Codec) where
   pub record QuietAt (R m : ℕ) (live : Bool) (d : Device) (x : House) (k : Kept) : Type 0 where
     pub powered : Powered codec R d x k
     pub long-fits : m ≤ R
-    pub log : lifecycle.Active updated no_state ReplayFits record_of codec.torn live d x.tapes.active (passive x) x.tapes.generation m x.store.dir (lines_of_kept k) (smalls_of k)
+    pub log : lifecycle.Active updated no_state ReplayFits codec.reading codec.torn live d x.tapes.active (passive x) x.tapes.generation m x.store.dir (lines_of_kept k) (smalls_of k)
 
   pub record BusyAt (R m : ℕ) (live : Bool) (d : Device) (x : House) (k : Kept) : Type 0 where
     pub powered : Powered codec R d x k
     pub long-fits : m ≤ R
     pub is-busy : x.tapes.busy ≡ true
-    pub log : lifecycle.Copying updated no_state ReplayFits record_of codec.torn live d x.tapes.active (passive x) x.tapes.generation m x.tapes.other x.store.dir (lines_of_kept k) (smalls_of k)
+    pub log : lifecycle.Copying updated no_state ReplayFits codec.reading codec.torn live d x.tapes.active (passive x) x.tapes.generation m x.tapes.other x.store.dir (lines_of_kept k) (smalls_of k)
     pub behind : Behind x.tapes.active x.tapes.cursor x.store.dir
     pub cursor : x.tapes.cursor ≤ length x.store.dir
 
@@ -47,7 +47,7 @@ module _ (codec : Codec) where
     at-busy {m} e h = record {
       powered = h.powered;
       is-busy = h.is-busy;
-      log = subst (λ n. lifecycle.Copying updated no_state ReplayFits record_of codec.torn live d x.tapes.active (passive x) x.tapes.generation n x.tapes.other x.store.dir (lines_of_kept k) (smalls_of k)) e h.log;
+      log = subst (λ n. lifecycle.Copying updated no_state ReplayFits codec.reading codec.torn live d x.tapes.active (passive x) x.tapes.generation n x.tapes.other x.store.dir (lines_of_kept k) (smalls_of k)) e h.log;
       behind = h.behind;
       cursor = h.cursor;
     }
@@ -68,22 +68,22 @@ module _ (codec : Codec) where
       live = live;
       used = m;
       dir = h.log.compacting.old;
-      log = lifecycle.copying-active updated no_state ReplayFits record_of codec.torn h.log;
+      log = lifecycle.copying-active updated no_state ReplayFits codec.reading codec.torn h.log;
       room = h.powered.device-room;
       used-fits = h.long-fits;
       other_fits = h.powered.other_fits;
     }
 
     -- a stop at rest, and while entries are carried
-    pub quiet-rests : Quiet codec R live d x k → (cs : List ℕ) → OffAt R (stopped d cs) k
+    pub quiet-rests : Quiet codec R live d x k → (cs : List ℕ) → OffAt codec R (stopped d cs) k
     quiet-rests h = firm-off codec R k (quiet-firm (quiet_at h))
 
-    pub busy-rests : Busy codec R live d x k → (cs : List ℕ) → OffAt R (stopped d cs) k
+    pub busy-rests : Busy codec R live d x k → (cs : List ℕ) → OffAt codec R (stopped d cs) k
     busy-rests h = firm-off codec R k (busy-firm (busy-at h))
 
     -- how long the other tape is, and the directory
     pub busy-other : {m : ℕ} → BusyAt R m live d x k → length (tape_of d (passive x)).records ≡ x.tapes.other
-    busy-other h = sym (length-map (tape_of d (passive x)).records record_of) ∙ ap length (layout_new_is record_of h.log.layout) ∙ h.log.next-used
+    busy-other h = sym (length-map (tape_of d (passive x)).records codec.reading) ∙ ap length (layout_new_is codec.reading h.log.layout) ∙ h.log.next-used
 
     pub busy-long : {m : ℕ} → BusyAt R m live d x k → length x.store.dir ≡ length (directory k)
     busy-long h = alike_length h.log.compacting.holds ∙ length-map (directory k) _

@@ -17,7 +17,7 @@ use Rattle.commands.specs.Kept.{Kept, kept_weight}
 use Rattle.commands.specs.Held.{Held}
 use Rattle.engine.specs.State.{House, Phase}
 use Rattle.engine.specs.Fits.{Fits}
-use Rattle.engine.specs.Machine.{machine, answers, on_next, on_record}
+use Rattle.engine.specs.Machine.{machine_by, answers_by, on_next, on_record}
 use Rattle.engine.proofs.Facts.{Codec, OffAt, Off, Safe, Idle}
 
 pub record Course (R : ℕ) (w : Plain) (t : List ℕ) : Type 0 where
@@ -32,20 +32,20 @@ pub record Course (R : ℕ) (w : Plain) (t : List ℕ) : Type 0 where
 
 module _ (codec : Codec) (R n : ℕ) {w : Plain} {t : List ℕ} (C : Course R w t) where
   abbrev pub Stop : Device → List (List ℕ) → Type 0
-  Stop = Anywhere (May core R) (Off R n) w t
+  Stop = Anywhere (May core R) (Off codec R n) w t
 
   abbrev pub End : House → Device → List (List ℕ) → ℕ → ℕ → Type 0
   End = Did-it (May core R) (λ x d s. Idle codec R n x d s) w t
 
   abbrev pub Leads : Where House → Type 0
-  Leads p = Goes machine Stop End p
+  Leads p = Goes (machine_by codec.reading) Stop End p
 
   -- so much was shown and so many records were used; `more` rows and j records are still to come
   pub record On-course (ss more : List (List ℕ)) (r j : ℕ) : Type 0 where
     pub rows : ss ++ more ≡ C.shown
     pub count : r + j ≤ C.grant
 
-  pub stops : {d : Device} {ss more : List (List ℕ)} {r j : ℕ} (k : Kept) → Held w k → kept_weight k ≤ 32 * R → Safe R d k C.kept → On-course ss more r j → Stop d ss
+  pub stops : {d : Device} {ss more : List (List ℕ)} {r j : ℕ} (k : Kept) → Held w k → kept_weight k ≤ 32 * R → Safe codec R d k C.kept → On-course ss more r j → Stop d ss
   stops {d} {ss} {more} k h l safe o cs =
       let ok : May core R w t (ss ++ more) 0 C.reply C.next = subst (λ z. May core R w t z 0 C.reply C.next) (sym o.rows) (C.allowed 0 (omega arith)) in
       elim (safe.leaves cs) [
@@ -62,36 +62,36 @@ module _ (codec : Codec) (R n : ℕ) {w : Plain} {t : List ℕ} (C : Course R w 
   }
 
 -- TELLING THE MACHINE, whatever is asked of stops and of the end
-module _ {Stop : Device → List (List ℕ) → Type 0} {End : House → Device → List (List ℕ) → ℕ → ℕ → Type 0} where
+module _ (reading : Page → Rec News) {Stop : Device → List (List ℕ) → Type 0} {End : House → Device → List (List ℕ) → ℕ → ℕ → Type 0} where
   pub go_next : {x : House} {d : Device} {ss : List (List ℕ)} {r : ℕ} (ph : Phase) → x.phase ≡ ph → Fits x → Stop d ss →
-      Goes machine Stop End (after_did d ss r (on_next ph x)) → Goes machine Stop End (going x d next ss r)
-  unfolding machine answers
-  go_next {x} {d} {ss} {r} ph e f stop h = is_going f stop (subst (λ q. Goes machine Stop End (after_did d ss r (on_next q x))) (sym e) h)
+      Goes (machine_by reading) Stop End (after_did d ss r (on_next ph x)) → Goes (machine_by reading) Stop End (going x d next ss r)
+  unfolding machine_by answers_by
+  go_next {x} {d} {ss} {r} ph e f stop h = is_going f stop (subst (λ q. Goes (machine_by reading) Stop End (after_did d ss r (on_next q x))) (sym e) h)
 
   -- a record is put on where there is room
   pub puts : {x : House} (d : Device) {ss : List (List ℕ)} {r : ℕ} (t : ℕ) (p : Page) → has_room d t p ≡ true →
-      Goes machine Stop End (going x (longer d t p) next ss (suc r)) → Goes machine Stop End (after_act d ss r x (put_on t p))
-  puts {x} d {ss} {r} t p q h = subst (λ b. Goes machine Stop End (pick b (going x (longer d t p) next ss (suc r)) (over x d ss r 1001))) (sym q) h
+      Goes (machine_by reading) Stop End (going x (longer d t p) next ss (suc r)) → Goes (machine_by reading) Stop End (after_act d ss r x (put_on t p))
+  puts {x} d {ss} {r} t p q h = subst (λ b. Goes (machine_by reading) Stop End (pick b (going x (longer d t p) next ss (suc r)) (over x d ss r 1001))) (sym q) h
 
   -- told a record
-  pub go_record : {x : House} {d : Device} {ss : List (List ℕ)} {r : ℕ} (p : Page) (ph : Phase) (z : Rec News) → x.phase ≡ ph → record_of p ≡ z → Fits x → Stop d ss →
-      Goes machine Stop End (after_did d ss r (on_record ph z x)) → Goes machine Stop End (going x d (page p) ss r)
-  unfolding machine answers
+  pub go_record : {x : House} {d : Device} {ss : List (List ℕ)} {r : ℕ} (p : Page) (ph : Phase) (z : Rec News) → x.phase ≡ ph → reading p ≡ z → Fits x → Stop d ss →
+      Goes (machine_by reading) Stop End (after_did d ss r (on_record ph z x)) → Goes (machine_by reading) Stop End (going x d (page p) ss r)
+  unfolding machine_by answers_by
   go_record {x} {d} {ss} {r} p ph z e q f stop h =
-      is_going f stop (subst (λ a. Goes machine Stop End (after_did d ss r (on_record a (record_of p) x))) (sym e)
-      (subst (λ a. Goes machine Stop End (after_did d ss r (on_record ph a x))) (sym q) h))
+      is_going f stop (subst (λ a. Goes (machine_by reading) Stop End (after_did d ss r (on_record a (reading p) x))) (sym e)
+      (subst (λ a. Goes (machine_by reading) Stop End (after_did d ss r (on_record ph a x))) (sym q) h))
 
   pub asks : {x : House} (d : Device) {ss : List (List ℕ)} {r : ℕ} (t i : ℕ) → t < 2 →
-      Goes machine Stop End (going x d (page (read_record d t i)) ss (suc r)) → Goes machine Stop End (after_act d ss r x (read t i))
-  asks {x} d {ss} {r} t i q h = subst (λ b. Goes machine Stop End (pick b (going x d (page (read_record d t i)) ss (suc r)) (over x d ss r 1001))) (sym (lt-ltb t 2 q)) h
+      Goes (machine_by reading) Stop End (going x d (page (read_record d t i)) ss (suc r)) → Goes (machine_by reading) Stop End (after_act d ss r x (read t i))
+  asks {x} d {ss} {r} t i q h = subst (λ b. Goes (machine_by reading) Stop End (pick b (going x d (page (read_record d t i)) ss (suc r)) (over x d ss r 1001))) (sym (lt-ltb t 2 q)) h
 
   pub fastens : {x : House} (d : Device) {ss : List (List ℕ)} {r : ℕ} (t : ℕ) → t < 2 →
-      Goes machine Stop End (going x (fastened d t) next ss r) → Goes machine Stop End (after_act d ss r x (fasten t))
-  fastens {x} d {ss} {r} t q h = subst (λ b. Goes machine Stop End (pick b (going x (fastened d t) next ss r) (over x d ss r 1001))) (sym (lt-ltb t 2 q)) h
+      Goes (machine_by reading) Stop End (going x (fastened d t) next ss r) → Goes (machine_by reading) Stop End (after_act d ss r x (fasten t))
+  fastens {x} d {ss} {r} t q h = subst (λ b. Goes (machine_by reading) Stop End (pick b (going x (fastened d t) next ss r) (over x d ss r 1001))) (sym (lt-ltb t 2 q)) h
 
   pub begins : {x : House} (d : Device) {ss : List (List ℕ)} {r : ℕ} (t : ℕ) → t < 2 →
-      Goes machine Stop End (going x (anew d t) next ss r) → Goes machine Stop End (after_act d ss r x (begin t))
-  begins {x} d {ss} {r} t q h = subst (λ b. Goes machine Stop End (pick b (going x (anew d t) next ss r) (over x d ss r 1001))) (sym (lt-ltb t 2 q)) h
+      Goes (machine_by reading) Stop End (going x (anew d t) next ss r) → Goes (machine_by reading) Stop End (after_act d ss r x (begin t))
+  begins {x} d {ss} {r} t q h = subst (λ b. Goes (machine_by reading) Stop End (pick b (going x (anew d t) next ss r) (over x d ss r 1001))) (sym (lt-ltb t 2 q)) h
 
 -- a choice that is known
 pub chosen : {A : Type 0} (P : A → Type 0) (b c : Bool) (x y : A) → b ≡ c → P (pick c x y) → P (pick b x y)

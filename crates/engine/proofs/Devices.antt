@@ -120,7 +120,7 @@ module _ (codec : Codec) (R : ℕ) (k : Kept) where
     pub live : Bool
     pub used : ℕ
     pub dir : List Position
-    pub log : lifecycle.Active updated no_state ReplayFits record_of codec.torn live d x y g used dir (lines_of_kept k) (smalls_of k)
+    pub log : lifecycle.Active updated no_state ReplayFits codec.reading codec.torn live d x y g used dir (lines_of_kept k) (smalls_of k)
     pub room : d.room ≡ R
     pub used-fits : used ≤ R
     pub other_fits : length (tape_of d y).records ≤ R
@@ -131,17 +131,17 @@ module _ (codec : Codec) (R : ℕ) (k : Kept) where
 
     pub firm-length : length (tape_of d x).records ≡ h.used
     firm-length =
-        sym (length-map (tape_of d x).records record_of) ∙ ap length (layout_old_is record_of h.log.layout ∙ append-nil h.log.T) ∙ h.log.used
+        sym (length-map (tape_of d x).records codec.reading) ∙ ap length (layout_old_is codec.reading h.log.layout ∙ append-nil h.log.T) ∙ h.log.used
 
     -- whatever is left of it keeps k
-    pub firm-off : (cs : List ℕ) → OffAt R (stopped d cs) k
+    pub firm-off : (cs : List ℕ) → OffAt codec R (stopped d cs) k
     firm-off cs = record {
       room = h.room;
       fast_first = refl;
       fast-second = refl;
       fits_first = let a = left_short d.first (get_or cs 0 0) (get_or cs 1 0) in let b = both.0 in omega arith;
       fits-second = let a = left_short d.second (get_or cs 2 0) (get_or cs 3 0) in let b = both.1 in omega arith;
-      log = lifecycle.active-rests updated no_state ReplayFits record_of codec.torn cs h.log;
+      log = lifecycle.active-rests updated no_state ReplayFits codec.reading codec.torn cs h.log;
     }
       where
         pair : {a b : ℕ} → Sides a b → length (tape_of d a).records ≤ R → length (tape_of d b).records ≤ R → (length d.first.records ≤ R) × (length d.second.records ≤ R)
@@ -156,18 +156,18 @@ module _ (codec : Codec) (R : ℕ) (k : Kept) where
       live = h.live;
       used = h.used;
       dir = h.dir;
-      log = lifecycle.active-begin updated no_state ReplayFits record_of codec.torn h.log;
+      log = lifecycle.active-begin updated no_state ReplayFits codec.reading codec.torn h.log;
       room = anew-room d firm-sides ∙ h.room;
       used-fits = h.used-fits;
       other_fits = let e = ap (λ z. length z.records) (anew-here d firm-sides) in omega arith;
     }
 
-    pub firm-put : (p : Page) → (head_of (record_of p) ≡ 0) ⊎ (head_of (record_of p) ≡ next_generation g) → length (tape_of d y).records < R → Firm (longer d y p) x y g
+    pub firm-put : (p : Page) → (head_of (codec.reading p) ≡ 0) ⊎ (head_of (codec.reading p) ≡ next_generation g) → length (tape_of d y).records < R → Firm (longer d y p) x y g
     firm-put p e l = record {
       live = h.live;
       used = h.used;
       dir = h.dir;
-      log = lifecycle.active-put updated no_state ReplayFits record_of codec.torn p h.log e;
+      log = lifecycle.active-put updated no_state ReplayFits codec.reading codec.torn p h.log e;
       room = longer-room d p firm-sides ∙ h.room;
       used-fits = h.used-fits;
       other_fits = let q = longer-long d p firm-sides in omega arith;
@@ -178,7 +178,7 @@ module _ (codec : Codec) (R : ℕ) (k : Kept) where
       live = h.live;
       used = h.used;
       dir = h.dir;
-      log = lifecycle.active-fasten updated no_state ReplayFits record_of codec.torn h.log;
+      log = lifecycle.active-fasten updated no_state ReplayFits codec.reading codec.torn h.log;
       room = fastened-room d firm-sides ∙ h.room;
       used-fits = h.used-fits;
       other_fits = let e = ap (λ z. length z.records) (fastened-here d firm-sides) in let f = h.other_fits in omega arith;

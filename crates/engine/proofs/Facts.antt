@@ -18,45 +18,46 @@ use Rattle.engine.specs.Fits.{RecordFits, ReplayFits, Fits}
 use Rattle.engine.specs.Packing.{packs, records_on}
 use Rattle.engine.specs.Machine.{threshold}
 
--- RECORDS AS PAGES
+-- RECORDS AS PAGES, and what pages are taken for
 pub record Codec : Type 0 where
-  pub reads : (r : Rec News) → RecordFits r → record_of (page_of r) ≡ r
+  pub reading : Page → Rec News
+  pub reads : (r : Rec News) → RecordFits r → reading (page_of r) ≡ r
   pub pages : (r : Rec News) → RecordFits r → a_page (page_of r) ≡ true
-  pub torn : (p : Page) → record_of (halved p) ≡ broken
-  pub empty : record_of [] ≡ broken
+  pub torn : (p : Page) → reading (halved p) ≡ broken
+  pub empty : reading [] ≡ broken
 
 -- what is kept, as a tape has it
 abbrev pub lines_of_kept : Kept → List Packed
 lines_of_kept k = packs (directory k)
 
 -- WITHOUT POWER: the device holds what is kept
-pub record OffAt (R : ℕ) (d : Device) (k : Kept) : Type 0 where
+pub record OffAt (codec : Codec) (R : ℕ) (d : Device) (k : Kept) : Type 0 where
   pub room : d.room ≡ R
   pub fast_first : d.first.loose ≡ 0
   pub fast-second : d.second.loose ≡ 0
   pub fits_first : length d.first.records ≤ R
   pub fits-second : length d.second.records ≤ R
-  pub log : recovery.Off updated no_state ReplayFits (tapes record_of d) (lines_of_kept k) (smalls_of k)
+  pub log : recovery.Off updated no_state ReplayFits (tapes codec.reading d) (lines_of_kept k) (smalls_of k)
 
-pub record Off (R n : ℕ) (d : Device) (w : Plain) : Type 0 where
+pub record Off (codec : Codec) (R n : ℕ) (d : Device) (w : Plain) : Type 0 where
   pub kept : Kept
   pub held : Held w kept
   pub light : kept_weight kept ≤ 32 * R
-  pub off : OffAt R d kept
+  pub off : OffAt codec R d kept
 
 -- a stop leaves what was kept before, or what is kept then
-pub record Safe (R : ℕ) (d : Device) (k k₁ : Kept) : Type 0 where
-  pub leaves : (cs : List ℕ) → OffAt R (stopped d cs) k ⊎ OffAt R (stopped d cs) k₁
+pub record Safe (codec : Codec) (R : ℕ) (d : Device) (k k₁ : Kept) : Type 0 where
+  pub leaves : (cs : List ℕ) → OffAt codec R (stopped d cs) k ⊎ OffAt codec R (stopped d cs) k₁
 
 module _ (codec : Codec) where
   -- the tapes with power: one counts, alone, or while entries are carried to the other
   abbrev pub Active : Bool → Device → House → Kept → Type 0
   Active live d x k =
-      lifecycle.Active updated no_state ReplayFits record_of codec.torn live d x.tapes.active (passive x) x.tapes.generation x.tapes.used x.store.dir (lines_of_kept k) (smalls_of k)
+      lifecycle.Active updated no_state ReplayFits codec.reading codec.torn live d x.tapes.active (passive x) x.tapes.generation x.tapes.used x.store.dir (lines_of_kept k) (smalls_of k)
 
   abbrev pub Copying : Bool → Device → House → Kept → Type 0
   Copying live d x k =
-      lifecycle.Copying updated no_state ReplayFits record_of codec.torn live d x.tapes.active (passive x) x.tapes.generation x.tapes.used x.tapes.other x.store.dir (lines_of_kept k) (smalls_of k)
+      lifecycle.Copying updated no_state ReplayFits codec.reading codec.torn live d x.tapes.active (passive x) x.tapes.generation x.tapes.used x.tapes.other x.store.dir (lines_of_kept k) (smalls_of k)
 
   -- what is common to both
   pub record Powered (R : ℕ) (d : Device) (x : House) (k : Kept) : Type 0 where

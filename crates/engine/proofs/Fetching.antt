@@ -49,7 +49,7 @@ pub job-walks : (c : Simple) (size : ℕ) (p : Plan) (x : House) → walks p.wal
 job-walks c size p x e = ap (λ b. walk_at x.phase p.after 0 (pick b 0 (pick (ltb p.after p.upto) x.store.small.weight 0)) [] (start_job c size p x)) e
 
 -- a stop leaves what was kept before
-pub safe_rest : {codec : Codec} {R : ℕ} {d : Device} {x : House} {k : Kept} (k₁ : Kept) → Rest codec R d x k → Safe R d k k₁
+pub safe_rest : {codec : Codec} {R : ℕ} {d : Device} {x : House} {k : Kept} (k₁ : Kept) → Rest codec R d x k → Safe codec R d k k₁
 safe_rest {codec} k₁ h = record { leaves = λ cs. inl (rest_off codec h cs) }
 
 -- LINES of the text, of which some are still ahead
@@ -94,7 +94,7 @@ module _ (codec : Codec) {R : ℕ} {d : Device} {x : House} {k : Kept} where
 
   -- record j of entry e, which is the line l
   entry-reads : (e j : ℕ) (l : List ℕ) → Rest codec R d x k → e < length (directory k) → line_of (directory k) e ≡ l → j < records_of (length l) →
-      piece_in (record_of (read_record d (entry_of x e).tape ((entry_of x e).at + j))) ≡ piece_of l j
+      piece_in (codec.reading (read_record d (entry_of x e).tape ((entry_of x e).at + j))) ≡ piece_of l j
   entry-reads e j l h b q c =
       let p : get_or (packs (directory k)) e (packed l) ≡ packed l = subst (λ z. get_or (packs (directory k)) e (packed z) ≡ packed z) q (packs-at (directory k) e b) in
       let n : j < length (pieces_of (packed l)) = let z = packed-long l in omega arith in
@@ -102,13 +102,13 @@ module _ (codec : Codec) {R : ℕ} {d : Device} {x : House} {k : Kept} where
       go h m p n ∙ packed-at l j c
     where
       go : Rest codec R d x k → e < length x.store.dir → get_or (packs (directory k)) e (packed l) ≡ packed l → j < length (pieces_of (packed l)) →
-          piece_in (record_of (read_record d (entry_of x e).tape ((entry_of x e).at + j))) ≡ get_or (pieces_of (packed l)) j no_piece
-      go (quiet f u) m p n = lifecycle.active-reads updated no_state ReplayFits record_of codec.torn e j (packed l) f.log codec.empty m p n
-      go (busy S f u) m p n = lifecycle.copying_reads updated no_state ReplayFits record_of codec.torn e j (packed l) f.log codec.empty m p n
+          piece_in (codec.reading (read_record d (entry_of x e).tape ((entry_of x e).at + j))) ≡ get_or (pieces_of (packed l)) j no_piece
+      go (quiet f u) m p n = lifecycle.active-reads updated no_state ReplayFits codec.reading codec.torn e j (packed l) f.log codec.empty m p n
+      go (busy S f u) m p n = lifecycle.copying_reads updated no_state ReplayFits codec.reading codec.torn e j (packed l) f.log codec.empty m p n
 
   -- record j of line i of the text
   pub reading : (i j : ℕ) {l : List ℕ} → Rest codec R d x k → Line-at k.text i l → j < records_of (length l) →
-      piece_in (record_of (read_record d (entry_of x (text_at x.store.small + i)).tape ((entry_of x (text_at x.store.small + i)).at + j))) ≡ piece_of l j
+      piece_in (codec.reading (read_record d (entry_of x (text_at x.store.small + i)).tape ((entry_of x (text_at x.store.small + i)).at + j))) ≡ piece_of l j
   reading i j {l} h a c =
       let s : text_at x.store.small ≡ offset k.files = ap text_at (rest_small codec h).small ∙ text_starts k in
       let e : ℕ = text_at x.store.small + i in
@@ -170,9 +170,9 @@ module _ (codec : Codec) (R n : ℕ) {w : Plain} {t : List ℕ} (C : Course R w 
         let p : Position = entry_of x (text_at x.store.small + i) in
         let y : House = walk_at fetching i j went bs x in
         let g : Page = read_record d p.tape (p.at + j) in
-        asks d p.tape (p.at + j) (on_a_tape fits.store.dir (text_at x.store.small + i))
-        (go_record g fetching (record_of g) refl refl (fits-walk fetching fits f) (stops codec R n C k held (rest_small codec rest).light (safe_rest C.kept rest) o)
-        (subst (λ z. Leads codec R n C (after_did d ss (suc r) (fetched z (piece_in (record_of g)) y))) (sym walk)
+        asks codec.reading d p.tape (p.at + j) (on_a_tape fits.store.dir (text_at x.store.small + i))
+        (go_record codec.reading g fetching (codec.reading g) refl refl (fits-walk fetching fits f) (stops codec R n C k held (rest_small codec rest).light (safe_rest C.kept rest) o)
+        (subst (λ z. Leads codec R n C (after_did d ss (suc r) (fetched z (piece_in (codec.reading g)) y))) (sym walk)
         (subst (λ z. Leads codec R n C (after_did d ss (suc r) (fetched W z y))) (sym (reading codec i j rest a b)) h)))
 
     -- at the decision whether there are more lines

@@ -50,7 +50,7 @@ fits_as ph c g f = record { tapes = f.tapes; store = f.store; job = f.job; walki
 
 -- and a stop leaves it
 module _ (codec : Codec) {R : ℕ} {d : Device} {x : House} {k : Kept} where
-  pub rest_off : Rest codec R d x k → (cs : List ℕ) → OffAt R (stopped d cs) k
+  pub rest_off : Rest codec R d x k → (cs : List ℕ) → OffAt codec R (stopped d cs) k
   rest_off (quiet h l) cs = quiet-rests codec h cs
   rest_off (busy S h l) cs = busy-rests codec h cs
 
@@ -65,7 +65,7 @@ rows_alike (f ∷ fs) = ap (λ z. plain_house.file_row f ∷ z) (rows_alike fs)
 
 module _ (codec : Codec) (R n : ℕ) {w : Plain} {t : List ℕ} (C : Course R w t) where
   -- what is to be kept then is there already
-  pub stops_then : (d : Device) {ss more : List (List ℕ)} {r j : ℕ} → ((cs : List ℕ) → OffAt R (stopped d cs) C.kept) → On-course codec R n C ss more r j → Stop codec R n C d ss
+  pub stops_then : (d : Device) {ss more : List (List ℕ)} {r j : ℕ} → ((cs : List ℕ) → OffAt codec R (stopped d cs) C.kept) → On-course codec R n C ss more r j → Stop codec R n C d ss
   stops_then d {ss} {more} h o cs = record {
     now = C.next;
     more = more;
@@ -118,7 +118,7 @@ module _ (codec : Codec) (R n : ℕ) {w : Plain} {t : List ℕ} (C : Course R w 
       let f₁ : Fits x₁ = fits_as file_shown x₁.carrying g f in
       let h₁ : Rest codec R d x₁ C.kept = rest_as codec file_shown x.job x.walking x.putting x₁.carrying h in
       chosen (λ (y : Does). Leads codec R n C (after_did d ss r y)) (ltb i (length fs)) true _ _ (lt-ltb i (length fs) l)
-      (go_next file_shown refl f₁ (stops_then d (rest_off codec h₁) (row-then row o₁)) (files_lead left (suc i) x₁ c₂ h₁ f₁ (row-then row o₁) q))
+      (go_next codec.reading file_shown refl f₁ (stops_then d (rest_off codec h₁) (row-then row o₁)) (files_lead left (suc i) x₁ c₂ h₁ f₁ (row-then row o₁) q))
 
   finish_row_leads : (rows : Rows) (x : House) {d : Device} {ss : List (List ℕ)} {r j : ℕ} → Rest codec R d x C.kept → Fits x →
       On-course codec R n C ss (more_rows rows C.kept.files) r j → 0 ≡ C.reply → Leads codec R n C (after_did d ss r (finish_row rows x))
@@ -128,7 +128,7 @@ module _ (codec : Codec) (R n : ℕ) {w : Plain} {t : List ℕ} (C : Course R w 
       let x₁ : House = at_phase count_shown x in
       let h₁ : Rest codec R _ x₁ C.kept = rest_as codec count_shown x.job x.walking x.putting x.carrying h in
       let f₁ : Fits x₁ = fits_as count_shown x.carrying f.carrying f in
-      go_next count_shown refl f₁ (stops_then d (rest_off codec h₁) (row-then (eight m) o)) (ends_lead h₁ f₁ (row-then (eight m) o) q)
+      go_next codec.reading count_shown refl f₁ (stops_then d (rest_off codec h₁) (row-then (eight m) o)) (ends_lead h₁ f₁ (row-then (eight m) o) q)
   finish_row_leads all_files x {d} {ss} {r} {j} h f o q =
       let e : each file_row x.store.small.files ≡ each plain_house.file_row C.kept.files = ap (λ s. each file_row s.files) (rest_small codec h).small ∙ rows_alike C.kept.files in
       files_lead x.store.small.files 0 x refl h f (subst (λ z. On-course codec R n C ss z r j) (sym e) o) q

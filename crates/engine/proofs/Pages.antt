@@ -5,7 +5,7 @@ use Rattle.plain.specs.Pattern.{all_bytes}
 use Rattle.journal.specs.Log.{Source, no_entries, new_entries, copied, Splice, Piece, Rec, head, line, copy, commit, broken}
 use Rattle.journal.specs.Small.{Entry, Also, nothing_else, push, slot, News}
 use Rattle.records.specs.Pages as pages
-use Rattle.records.specs.Pages.{SmallNumber}
+use Rattle.records.specs.Pages.{SmallNumber, record_of}
 use Rattle.records.proofs.Pages.{page-back, page-whole, torn-broken, none_broken}
 use Rattle.engine.specs.Fits.{Word, entry_fits, SourceFits, SpliceFits, AlsoFits, NewsFits, PieceFits, RecordFits}
 use Rattle.engine.proofs.Facts.{Codec}
@@ -47,6 +47,7 @@ record_fits broken f = f
 
 pub codec : Codec
 codec = record {
+  reading = record_of;
   reads = λ r f. page-back r (record_fits r f);
   pages = λ r f. page-whole r (record_fits r f);
   torn = torn-broken;

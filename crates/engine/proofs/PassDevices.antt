@@ -12,7 +12,7 @@ use Rattle.journal.proofs.Contents.{Layout, layout_old_is, layout_new_is}
 use Rattle.commands.specs.Kept.{Kept}
 use Rattle.commands.specs.Smalls.{smalls_of}
 use Rattle.engine.specs.Fits.{ReplayFits}
-use Rattle.engine.proofs.Facts.{OffAt, lines_of_kept}
+use Rattle.engine.proofs.Facts.{Codec, OffAt, lines_of_kept}
 use Rattle.engine.proofs.Devices.{left_short}
 
 -- ONE TAPE OF TWO
@@ -78,9 +78,9 @@ pub bounded_sides : {R x y : ℕ} {d : Device} → Sides x y → d.room ≡ R �
 bounded_sides ahead r a b = record { room = r; first = a; second = b }
 bounded_sides back r a b = record { room = r; first = b; second = a }
 
-pub off_at_by : {R : ℕ} {d : Device} {k : Kept} (cs : List ℕ) → Bounded R d →
-    recovery.Off updated no_state ReplayFits (tapes record_of (stopped d cs)) (lines_of_kept k) (smalls_of k) → OffAt R (stopped d cs) k
-off_at_by {R} {d} cs b h = record {
+pub off_at_by : (codec : Codec) {R : ℕ} {d : Device} {k : Kept} (cs : List ℕ) → Bounded R d →
+    recovery.Off updated no_state ReplayFits (tapes codec.reading (stopped d cs)) (lines_of_kept k) (smalls_of k) → OffAt codec R (stopped d cs) k
+off_at_by codec {R} {d} cs b h = record {
   room = b.room;
   fast_first = refl;
   fast-second = refl;
@@ -90,8 +90,8 @@ off_at_by {R} {d} cs b h = record {
 }
 
 -- as many records as are read there
-pub layout_old_count : {v : Device} {x y : ℕ} {T P F L : List (Rec News)} → Layout record_of v x y T P F L → length (tape_of v x).records ≡ length (T ++ P)
-layout_old_count {v} {x} h = sym (length-map (tape_of v x).records record_of) ∙ ap length (layout_old_is record_of h)
+pub layout_old_count : (reading : Page → Rec News) {v : Device} {x y : ℕ} {T P F L : List (Rec News)} → Layout reading v x y T P F L → length (tape_of v x).records ≡ length (T ++ P)
+layout_old_count reading {v} {x} h = sym (length-map (tape_of v x).records reading) ∙ ap length (layout_old_is reading h)
 
-pub layout_new_count : {v : Device} {x y : ℕ} {T P F L : List (Rec News)} → Layout record_of v x y T P F L → length (tape_of v y).records ≡ length (F ++ L)
-layout_new_count {v} {x} {y} h = sym (length-map (tape_of v y).records record_of) ∙ ap length (layout_new_is record_of h)
+pub layout_new_count : (reading : Page → Rec News) {v : Device} {x y : ℕ} {T P F L : List (Rec News)} → Layout reading v x y T P F L → length (tape_of v y).records ≡ length (F ++ L)
+layout_new_count reading {v} {x} {y} h = sym (length-map (tape_of v y).records reading) ∙ ap length (layout_new_is reading h)

@@ -106,7 +106,7 @@ pub copy-fits : (i : ℕ) (l : List ℕ) (j : ℕ) → Word i → j ≤ 2 → fi
 copy-fits i l j w p h = (w, p, piece-fits l j h)
 
 module _ (codec : Codec) where
-  copies-read : (i : ℕ) (l : List ℕ) (j n : ℕ) → Word i → j + n ≤ 3 → fit_line l ≡ true → map record_of (copy_pages i l j n) ≡ copies i j (pieces_from l j n)
+  copies-read : (i : ℕ) (l : List ℕ) (j n : ℕ) → Word i → j + n ≤ 3 → fit_line l ≡ true → map codec.reading (copy_pages i l j n) ≡ copies i j (pieces_from l j n)
   unfolding copies pieces_from
   copies-read i l j zero w b h = refl
   copies-read i l j (suc n) w b h =
@@ -114,7 +114,7 @@ module _ (codec : Codec) where
       let f = copies-read i l (suc j) n w (omega arith) h in
       λ u. e u ∷ f u
 
-  pub copies_are : (i : ℕ) (l : List ℕ) → Word i → fit_line l ≡ true → map record_of (copy_pages i l 0 (records_of (length l))) ≡ copy_records i (packed l)
+  pub copies_are : (i : ℕ) (l : List ℕ) → Word i → fit_line l ≡ true → map codec.reading (copy_pages i l 0 (records_of (length l))) ≡ copy_records i (packed l)
   unfolding copies
   copies_are i l w h = copies-read i l 0 (records_of (length l)) w (let q = records_few (length l) in omega arith) h ∙ ap (copies i 0) (pieces_all l)
 

@@ -61,7 +61,7 @@ module _ (codec : Codec) (R n : ℕ) {w : Plain} {t : List ℕ} (C : Course R w 
       let o₁ : On-course codec R n C ss (more_rows x₁.job.plan.rows C.kept.files) r₁ (2 * need x) = subst (λ (j : Job). On-course codec R n C ss (more_rows j.plan.rows C.kept.files) r₁ (2 * need x)) (sym same.job) o in
       pass_leads codec R n C x₁ able held fits (brings_same same b) o₁ (omega arith) q)
 
-  can_stop : {ss more : List (List ℕ)} {r j : ℕ} → On-course codec R n C ss more r j → (d : Device) → ((cs : List ℕ) → OffAt R (stopped d cs) k) → Stop codec R n C d ss
+  can_stop : {ss more : List (List ℕ)} {r j : ℕ} → On-course codec R n C ss more r j → (d : Device) → ((cs : List ℕ) → OffAt codec R (stopped d cs) k) → Stop codec R n C d ss
   can_stop o d f = stops codec R n C k held light (record { leaves = λ cs. inl (f cs) }) o
 
   -- the other tape has to be begun

@@ -32,7 +32,7 @@ use Rattle.engine.proofs.Splices.{OnlyNew, apply_new, behind_after, cursor-below
 
 module _ (codec : Codec) (R n : ℕ) {w : Plain} {t : List ℕ} (C : Course R w t) where
   -- before the first record
-  safe_here : {second : Bool} {x : House} {d : Device} {k : Kept} {m : ℕ} → Passing codec R n C second x d k m → Safe R d k C.kept
+  safe_here : {second : Bool} {x : House} {d : Device} {k : Kept} {m : ℕ} → Passing codec R n C second x d k m → Safe codec R d k C.kept
   unfolding all_longer
   safe_here {x = x} p = p.safe [] (brought x) refl
 
@@ -77,7 +77,7 @@ module _ (codec : Codec) (R n : ℕ) {w : Plain} {t : List ℕ} (C : Course R w 
     between-long : length (tape_of (fastened on-first x.tapes.active) (passive x)).records ≡ x.tapes.other
     between-long =
         ap (λ z. length z.records) (with_tape_beside on-first _ h.log.layout.sides ∙ all_longer_beside d (pages (brought x)) h.log.layout.sides)
-        ∙ layout_new_count h.log.layout ∙ h.log.next-used
+        ∙ layout_new_count codec.reading h.log.layout ∙ h.log.next-used
 
     abbrev from : ℕ
     from = x.job.plan.splice.from
@@ -153,7 +153,7 @@ module _ (codec : Codec) (R n : ℕ) {w : Plain} {t : List ℕ} (C : Course R w 
   pass_busy x {d} {k} {ss} {r} {j} S h held f b only fits more-fits c o g e =
       let a : ℕ = x.tapes.active in
       let here = h.powered in
-      let one = lifecycle.copying-active updated no_state ReplayFits record_of codec.torn h.log in
+      let one = lifecycle.copying-active updated no_state ReplayFits codec.reading codec.torn h.log in
       let p : Passing codec R n C false x d k x.tapes.used = passing_first codec R n C x d k here held f b one fits in
       let i₁ : ℕ = x.tapes.used + lines_records x.job.lines in
       let i₂ : ℕ = x.tapes.other + lines_records x.job.lines in
@@ -180,10 +180,10 @@ module _ (codec : Codec) (R n : ℕ) {w : Plain} {t : List ℕ} (C : Course R w 
       let o₁ : On-course codec R n C ss (more_rows x.job.plan.rows C.kept.files) (r + need x) (need x) = record { rows = o.rows; count = let q = o.count in omega arith } in
       let o₂ : On-course codec R n C ss (more_rows x.job.plan.rows C.kept.files) (r + need x + need x) 0 = record { rows = o.rows; count = let q = o.count in omega arith } in
       pass-goes codec R n C p o x.phase (y commit_put) (λ ph. commit_first ph i₁ P₁ x h.is-busy)
-      (go_next commit_put refl (f₁ commit_put) (stops codec R n C k held here.light (p.safe (brought x) [] (append-nil (brought x))) o)
-      (fastens d₁ a p.below
-      (go_next commit_fast refl (f₁ commit_fast) (stops codec R n C k held here.light (safe_here p₂) o)
+      (go_next codec.reading commit_put refl (f₁ commit_put) (stops codec R n C k held here.light (p.safe (brought x) [] (append-nil (brought x))) o)
+      (fastens codec.reading d₁ a p.below
+      (go_next codec.reading commit_fast refl (f₁ commit_fast) (stops codec R n C k held here.light (safe_here p₂) o)
       (chosen (λ (v : Does). Leads codec R n C (after_did d₂ ss (r + need x) v)) x.tapes.busy true (start_pass true (y commit_fast)) (finish (y commit_fast)) h.is-busy
       (pass-goes codec R n C p₂ o₁ commit_fast z (λ ph. commit-second ph i₂ P₂ (y commit_fast))
-      (go_next commit_put refl (end_fits x h f b only fits more-fits) (stops codec R n C k held here.light (p₂.safe (brought x) [] (append-nil (brought x))) o₁)
+      (go_next codec.reading commit_put refl (end_fits x h f b only fits more-fits) (stops codec R n C k held here.light (p₂.safe (brought x) [] (append-nil (brought x))) o₁)
       (finish_leads codec R n C z (end_rest x h f b only fits more-fits S c) (end_fits x h f b only fits more-fits) o₂ e)))))))

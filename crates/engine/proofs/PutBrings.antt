@@ -39,10 +39,10 @@ pub record Bringing (k k₁ : Kept) (new : List (List ℕ)) (c : Splice) (u : Ne
 module _ (codec : Codec) where
   -- the log with one tape that counts, and with the other one meanwhile
   abbrev pub One : Device → ℕ → ℕ → ℕ → ℕ → List Position → Kept → Type 0
-  One v x y g m D k = lifecycle.Active updated no_state ReplayFits record_of codec.torn true v x y g m D (packs (directory k)) (smalls_of k)
+  One v x y g m D k = lifecycle.Active updated no_state ReplayFits codec.reading codec.torn true v x y g m D (packs (directory k)) (smalls_of k)
 
   abbrev pub Two : Device → ℕ → ℕ → ℕ → ℕ → ℕ → List Position → Kept → Type 0
-  Two v x y g m i D k = lifecycle.Copying updated no_state ReplayFits record_of codec.torn true v x y g m i D (packs (directory k)) (smalls_of k)
+  Two v x y g m i D k = lifecycle.Copying updated no_state ReplayFits codec.reading codec.torn true v x y g m i D (packs (directory k)) (smalls_of k)
 
   module _ {k k₁ : Kept} {new : List (List ℕ)} {c : Splice} {u : News} (b : Bringing k k₁ new c u) where
     abbrev all_of : List (Rec News)
@@ -58,10 +58,10 @@ module _ (codec : Codec) where
     belong : AllBelong all_of
     belong = command_belongs new c u b.lines b.splice b.news
 
-    read_back : (P Q : List (Rec News)) → P ++ Q ≡ all_of → map record_of (pages P) ≡ P
+    read_back : (P Q : List (Rec News)) → P ++ Q ≡ all_of → map codec.reading (pages P) ≡ P
     read_back P Q e = pages_read codec P (first_belong P Q e belong)
 
-    read_all : map record_of (pages all_of) ≡ all_of
+    read_all : map codec.reading (pages all_of) ≡ all_of
     read_all = pages_read codec all_of belong
 
     pub pages-count : length (pages all_of) ≡ suc (lines_records new)
@@ -73,7 +73,7 @@ module _ (codec : Codec) where
     -- ON THE TAPE THAT COUNTS
     module _ {R : ℕ} {v : Device} {x y g m : ℕ} {D : List Position} (h : One v x y g m D k) (room : v.room ≡ R) (fits : m + suc (lines_records new) ≤ R) where
       there : length (tape_of v x).records ≡ m
-      there = layout_old_count h.layout ∙ ap length (append-nil h.T) ∙ h.used
+      there = layout_old_count codec.reading h.layout ∙ ap length (append-nil h.T) ∙ h.used
 
       count-then : (P Q : List (Rec News)) → P ++ Q ≡ all_of → length (tape_of (all_longer v x (pages P)) x).records + length Q ≡ m + suc (lines_records new)
       count-then P Q e = let a = all_longer-count v x (pages P) in let f = first-few P Q e in let q = there in omega (arith, a, f, q)
@@ -91,15 +91,15 @@ module _ (codec : Codec) where
           bounded_sides h.layout.sides (all_longer-room v x (pages P) ∙ room) (omega (arith, a)) (omega (arith, s))
 
       -- a stop there leaves what was kept before, or what is kept then
-      pub first_safe : length (tape_of v y).records ≤ R → (P Q : List (Rec News)) → P ++ Q ≡ all_of → Safe R (all_longer v x (pages P)) k k₁
+      pub first_safe : length (tape_of v y).records ≤ R → (P Q : List (Rec News)) → P ++ Q ≡ all_of → Safe codec R (all_longer v x (pages P)) k k₁
       first_safe l P Q e = record {
         leaves = λ cs.
             let v₁ : Device = all_longer v x (pages P) in
-            let lay : Layout record_of v₁ x y h.T P h.F h.L = subst (λ z. Layout record_of v₁ x y h.T z h.F h.L) (read_back P Q e) (lifecycle.layout_all_old record_of (pages P) h.layout) in
+            let lay : Layout codec.reading v₁ x y h.T P h.F h.L = subst (λ z. Layout codec.reading v₁ x y h.T z h.F h.L) (read_back P Q e) (lifecycle.layout_all_old codec.reading (pages P) h.layout) in
             let o = first-bounded P Q l e in
-            elim (lifecycle.command_rests updated no_state ReplayFits record_of codec.torn cs Q (packs new) c u e b.allowed lay h.cycle h.gen h.newer h.keeps (h.ready refl)) [
-              | inl q ↦ inl (off_at_by cs o q)
-              | inr q ↦ inr (off_at_by cs o (by-then (λ ls s. recovery.Off updated no_state ReplayFits (tapes record_of (stopped v₁ cs)) ls s) q))
+            elim (lifecycle.command_rests updated no_state ReplayFits codec.reading codec.torn cs Q (packs new) c u e b.allowed lay h.cycle h.gen h.newer h.keeps (h.ready refl)) [
+              | inl q ↦ inl (off_at_by codec cs o q)
+              | inr q ↦ inr (off_at_by codec cs o (by-then (λ ls s. recovery.Off updated no_state ReplayFits (tapes codec.reading (stopped v₁ cs)) ls s) q))
             ];
       }
 
@@ -110,8 +110,8 @@ module _ (codec : Codec) where
         let v₁ : Device = fastened (all_longer v x (pages all_of)) x in
         let D₁ : List Position = apply c D (positions x m (packs new)) in
         subst (λ i. One v₁ x y g (m + i) D₁ k₁) pages-count
-        (by-then (λ ls s. lifecycle.Active updated no_state ReplayFits record_of codec.torn true v₁ x y g (m + length (pages all_of)) D₁ ls s)
-        (lifecycle.active-command updated no_state ReplayFits record_of codec.torn (pages all_of) (packs new) c u h read_all b.allowed))
+        (by-then (λ ls s. lifecycle.Active updated no_state ReplayFits codec.reading codec.torn true v₁ x y g (m + length (pages all_of)) D₁ ls s)
+        (lifecycle.active-command updated no_state ReplayFits codec.reading codec.torn (pages all_of) (packs new) c u h read_all b.allowed))
 
     -- AND ON THE OTHER ONE, when they are
     pub other-on : (P : List (Rec News)) {v : Device} {x y g m : ℕ} {D : List Position} → One v x y g m D k₁ → AllBelong P → One (all_longer v y (pages P)) x y g m D k₁
@@ -119,7 +119,7 @@ module _ (codec : Codec) where
     other-on [] h a = h
     other-on (r ∷ P) h a =
         other-on P
-        (lifecycle.active-put updated no_state ReplayFits record_of codec.torn (page_of r) h (inl (ap head_of (codec.reads r (a r (inl refl)).fits) ∙ (a r (inl refl)).no_head)))
+        (lifecycle.active-put updated no_state ReplayFits codec.reading codec.torn (page_of r) h (inl (ap head_of (codec.reads r (a r (inl refl)).fits) ∙ (a r (inl refl)).no_head)))
         (λ q i. a q (inr i))
 
     module _ {R : ℕ} {v : Device} {x y g m i : ℕ} {D : List Position} (h : One v x y g m D k₁) (room : v.room ≡ R) (fits : m ≤ R) (long : length (tape_of v y).records ≡ i)
@@ -131,15 +131,15 @@ module _ (codec : Codec) where
           room_for (all_longer v y (pages P)) y R (length (tape_of (all_longer v y (pages P)) y).records) (page_of r) (side_second h.layout.sides) (all_longer-room v y (pages P) ∙ room) refl (omega (arith, a, f))
           (codec.pages r (next_belongs P r Q e belong).fits)
 
-      pub second_safe : (P Q : List (Rec News)) → P ++ Q ≡ all_of → Safe R (all_longer v y (pages P)) k k₁
+      pub second_safe : (P Q : List (Rec News)) → P ++ Q ≡ all_of → Safe codec R (all_longer v y (pages P)) k k₁
       second_safe P Q e = record {
         leaves = λ cs.
             let h₁ = other-on P h (first_belong P Q e belong) in
             let a = all_longer-count v y (pages P) in
             let f = first-few P Q e in
-            let q = layout_old_count h₁.layout ∙ ap length (append-nil h₁.T) ∙ h₁.used in
-            inr (off_at_by cs (bounded_sides h₁.layout.sides (all_longer-room v y (pages P) ∙ room) (omega (arith, q)) (omega (arith, a, f)))
-            (lifecycle.active-rests updated no_state ReplayFits record_of codec.torn cs h₁));
+            let q = layout_old_count codec.reading h₁.layout ∙ ap length (append-nil h₁.T) ∙ h₁.used in
+            inr (off_at_by codec cs (bounded_sides h₁.layout.sides (all_longer-room v y (pages P) ∙ room) (omega (arith, q)) (omega (arith, a, f)))
+            (lifecycle.active-rests updated no_state ReplayFits codec.reading codec.torn cs h₁));
       }
 
     -- all of them are on both
@@ -149,5 +149,5 @@ module _ (codec : Codec) where
         let v₁ : Device = all_longer (fastened (all_longer v x (pages all_of)) x) y (pages all_of) in
         let D₁ : List Position = apply c D (positions y i (packs new)) in
         subst (λ j. Two v₁ x y g (m + j) (i + j) D₁ k₁) pages-count
-        (by-then (λ ls s. lifecycle.Copying updated no_state ReplayFits record_of codec.torn true v₁ x y g (m + length (pages all_of)) (i + length (pages all_of)) D₁ ls s)
-        (lifecycle.copying_commands updated no_state ReplayFits record_of codec.torn (pages all_of) (packs new) c u h read_all b.allowed))
+        (by-then (λ ls s. lifecycle.Copying updated no_state ReplayFits codec.reading codec.torn true v₁ x y g (m + length (pages all_of)) (i + length (pages all_of)) D₁ ls s)
+        (lifecycle.copying_commands updated no_state ReplayFits codec.reading codec.torn (pages all_of) (packs new) c u h read_all b.allowed))

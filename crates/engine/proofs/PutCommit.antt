@@ -92,7 +92,7 @@ fits_committed second {x} ph m P f a p g c =
 
 -- ON ONE TAPE ALONE
 module _ (codec : Codec) (R n : ℕ) {w : Plain} {t : List ℕ} (C : Course R w t) where
-  -- what the first pass begins with, as far as the tapes go
+  -- what the first pass begins codec.reading with, as far as the tapes go
   pub passing_first :
       (x : House) (d : Device) (k : Kept) {D : List Position} → Powered codec R d x k → Held w k → Fits x → Bringing k C.kept x.job.lines x.job.plan.splice (news_of x) →
       One codec d x.tapes.active (passive x) x.tapes.generation x.tapes.used D k → x.tapes.used + need x ≤ R → Passing codec R n C false x d k x.tapes.used
@@ -154,8 +154,8 @@ module _ (codec : Codec) (R n : ℕ) {w : Plain} {t : List ℕ} (C : Course R w 
       }) (omega arith) in
       let o₁ : On-course codec R n C ss (more_rows x.job.plan.rows C.kept.files) (r + need x) 0 = record { rows = o.rows; count = let q = o.count in omega arith } in
       pass-goes codec R n C p o x.phase (committed false commit_put i P x) (λ ph. commit-alone ph i P x h.not-busy)
-      (go_next commit_put refl (f₁ commit_put) (stops codec R n C k held here.light (p.safe (brought x) [] (append-nil (brought x))) o)
-      (fastens d₁ a p.below
-      (go_next commit_fast refl (f₁ commit_fast) (stops_then codec R n C (fastened d₁ a) (rest_off codec rest) o)
+      (go_next codec.reading commit_put refl (f₁ commit_put) (stops codec R n C k held here.light (p.safe (brought x) [] (append-nil (brought x))) o)
+      (fastens codec.reading d₁ a p.below
+      (go_next codec.reading commit_fast refl (f₁ commit_fast) (stops_then codec R n C (fastened d₁ a) (rest_off codec rest) o)
       (chosen (λ (z : Does). Leads codec R n C (after_did (fastened d₁ a) ss (r + need x) z)) x.tapes.busy false (start_pass true y) (finish y) h.not-busy
       (finish_leads codec R n C y rest (f₁ commit_fast) o₁ e)))))

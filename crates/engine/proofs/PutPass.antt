@@ -78,7 +78,7 @@ module _ (codec : Codec) (R n : ℕ) {w : Plain} {t : List ℕ} (C : Course R w 
     pub below : side second x < 2
     pub few : length x.job.lines ≤ 65536
     pub most : m + need x ≤ 1048576
-    pub safe : (P Q : List (Rec News)) → P ++ Q ≡ brought x → Safe R (all_longer d (side second x) (pages P)) k C.kept
+    pub safe : (P Q : List (Rec News)) → P ++ Q ≡ brought x → Safe codec R (all_longer d (side second x) (pages P)) k C.kept
     pub room : (P : List (Rec News)) (r : Rec News) (Q : List (Rec News)) → P ++ r ∷ Q ≡ brought x → has_room (all_longer d (side second x) (pages P)) (side second x) (page_of r) ≡ true
 
   module _ {second : Bool} {x : House} {d : Device} {k : Kept} {m : ℕ} (h : Passing second x d k m) {ss more : List (List ℕ)} {r₀ j₀ : ℕ} (o : On-course codec R n C ss more r₀ j₀) where
@@ -118,7 +118,7 @@ module _ (codec : Codec) (R n : ℕ) {w : Plain} {t : List ℕ} (C : Course R w 
         Leads codec R n C (after_act (on-it P) ss r y (put_on to (page_of z)))
     one-put {y} {r} P z Q e g =
         let q : longer (on-it P) to (page_of z) ≡ on-it (P ++ z ∷ []) = all_longer_next d to (pages P) (page_of z) ∙ ap (all_longer d to) (sym (map-append page_of P (z ∷ []))) in
-        puts (on-it P) to (page_of z) (h.room P z Q e) (subst (λ v. Leads codec R n C (going y v next ss (suc r))) (sym q) g)
+        puts codec.reading (on-it P) to (page_of z) (h.room P z Q e) (subst (λ v. Leads codec R n C (going y v next ss (suc r))) (sym q) g)
 
     next_part : (P : List (Rec News)) (z : Rec News) (Q : List (Rec News)) → P ++ z ∷ Q ≡ brought x → (P ++ z ∷ []) ++ Q ≡ brought x
     next_part P z Q e = append_assoc P (z ∷ []) Q ∙ e
@@ -136,7 +136,7 @@ module _ (codec : Codec) (R n : ℕ) {w : Plain} {t : List ℕ} (C : Course R w 
         let y : House = midway second line_put m₁ pend (l ∷ ls) j x in
         let a = pending_few pend E p in
         let f : Fits y = fits_midway second line_put m₁ pend (l ∷ ls) j h.fits (count_most P Q e c) a.0 a.1 (let v = (records_few (length l)).1 in omega arith) in
-        go_next line_put refl f (stops codec R n C k h.held h.light (h.safe P Q e) o)
+        go_next codec.reading line_put refl f (stops codec R n C k h.held h.light (h.safe P Q e) o)
         (chosen (λ v. Leads codec R n C (after_did (on-it P) ss r (put_next (with_putting v y)))) (ltb (suc j) (records_of (length l))) b (putting_of second (l ∷ ls) (suc j)) (putting_of second ls 0) q g)
 
     -- the records of a line behind part j, and then what follows the line

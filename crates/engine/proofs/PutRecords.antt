@@ -73,10 +73,10 @@ next_belongs P r Q e h = h r (subst (λ z. In r z) e (in_right r P (r ∷ Q) (in
 abbrev pub pages : List (Rec News) → List Page
 pages rs = map page_of rs
 
-pub pages_read : (codec : Codec) (rs : List (Rec News)) → AllBelong rs → map record_of (pages rs) ≡ rs
+pub pages_read : (codec : Codec) (rs : List (Rec News)) → AllBelong rs → map codec.reading (pages rs) ≡ rs
 pages_read codec [] h = refl
 pages_read codec (r ∷ rs) h =
-    let a = codec.reads r (h r (inl refl)).fits in let b = pages_read codec rs (λ q i. h q (inr i)) in ap (λ z. z ∷ map record_of (pages rs)) a ∙ ap (λ z. r ∷ z) b
+    let a = codec.reads r (h r (inl refl)).fits in let b = pages_read codec rs (λ q i. h q (inr i)) in ap (λ z. z ∷ map codec.reading (pages rs)) a ∙ ap (λ z. r ∷ z) b
 
 -- WHERE THE LINES LIE
 pub fit_left : (xs ys : List Position) → PositionsFit (xs ++ ys) → PositionsFit xs

@@ -115,7 +115,7 @@ length-set_up_pages (u ∷ us) = ap suc (length-set_up_pages us)
 pub set_up_record : {u : News} → NewsFits u → RecordFits (set_up u)
 set_up_record f = (record { from = omega arith; gone = omega arith; source = tt; beside = refl }, f)
 
-pub set_up-read : (codec : Codec) {us : List News} → AllNews us → map record_of (set_up_pages us) ≡ map set_up us
+pub set_up-read : (codec : Codec) {us : List News} → AllNews us → map codec.reading (set_up_pages us) ≡ map set_up us
 set_up-read codec no_news_left = refl
 set_up-read codec (and_news {u = u} f h) =
     let e = codec.reads (set_up u) (set_up_record f) in

@@ -3,9 +3,11 @@ use Rattle.std.proofs.Common.{◌≡◌, ℕ, zero, suc, ◌+◌, ◌-◌, ◌*�
 use Rattle.plain.specs.Pattern.{pick, or}
 use Rattle.plain.specs.Command.{Address, Range, Deed, append, insert, change, delete, join, move, copy, mark, print, number, where_is, swap, go_to, undo, redo, save, edit, load, files, bad, Simple, Command, plain, all_lines, reads}
 use Rattle.plain.specs.House.{Plain, core}
-use Rattle.plain.specs.Device.{Device}
+use Rattle.plain.specs.Device.{Device, Page}
 use Rattle.plain.specs.Run.{Engine, Event, said, refusal_end, Steady}
 use Rattle.plain.specs.Promise.{May, Whole, first_plain}
+use Rattle.journal.specs.Log.{Rec}
+use Rattle.journal.specs.Small.{News}
 use Rattle.journal.proofs.Running.{Anywhere}
 use Rattle.journal.proofs.Machine.{Goes, going, is_going, after_did, Did-it, Keeps, Idle-kept, SoundMachine, sound-engine}
 use Rattle.journal.proofs.Whole.{whole}
@@ -21,7 +23,7 @@ use Rattle.commands.proofs.Readings.{reads_one}
 use Rattle.commands.proofs.Typed.{no_turn}
 use Rattle.engine.specs.State.{House}
 use Rattle.engine.specs.Fits.{Fits}
-use Rattle.engine.specs.Machine.{Does, machine, answers, obey, by_decision, decision, refuses}
+use Rattle.engine.specs.Machine.{Does, machine_by, answers_by, obey, by_decision, decision, refuses}
 use Rattle.engine.proofs.Facts.{Codec, Off, Rest, Idle}
 use Rattle.engine.proofs.Course.{Course, Stop, End, Leads, On-course, stops}
 use Rattle.engine.proofs.Courses.{course, turn-then, grant-on}
@@ -141,13 +143,13 @@ module _ (codec : Codec) (R n : ℕ) (most : R ≤ 1048576) (w : Plain) (k : Kep
   obeyed (c ∷ b ∷ cs) l e = absurd (omega arith)
 
   pub obeys_at : Leads codec R n C (going x d (said t) [] 0)
-  unfolding machine answers
+  unfolding machine_by answers_by
   obeys_at =
       let o : On-course codec R n C [] C.shown 0 0 = record { rows = refl; count = omega arith } in
       is_going fits (stops codec R n C k held light (safe_rest C.kept rest) o) (obeyed (reads t) (reads_one t) refl)
 
 -- SOUND
-pub sound : (codec : Codec) (R : ℕ) → 1024 ≤ R → R ≤ 1048576 → SoundMachine (May core R) machine (Off R) (λ n x d w. Idle codec R n x d w)
+pub sound : (codec : Codec) (R : ℕ) → 1024 ≤ R → R ≤ 1048576 → SoundMachine (May core R) (machine_by codec.reading) (Off codec R) (λ n x d w. Idle codec R n x d w)
 sound codec R low most = record {
   rests = rests codec R;
   wakes = wakes codec R low most;
@@ -155,14 +157,14 @@ sound codec R low most = record {
 }
 
 -- whatever keeps its memory is right beside the plain house; it may take for granted that the state after each step fits
-fits_told : (x : House) (ev : Event) → machine.Ok x ev → Fits x
-unfolding machine
-fits_told x ev f = f
+fits_told : (reading : Page → Rec News) (x : House) (ev : Event) → (machine_by reading).Ok x ev → Fits x
+unfolding machine_by
+fits_told reading x ev f = f
 
-pub engine-whole : (codec : Codec) (e : Engine) (Rep : List ℕ → House → Type 0) → Keeps machine Fits e Rep → Steady e → Whole core e
+pub engine-whole : (codec : Codec) (e : Engine) (Rep : List ℕ → House → Type 0) → Keeps (machine_by codec.reading) Fits e Rep → Steady e → Whole core e
 unfolding BeginsAlike
 engine-whole codec e Rep keeps steady =
-    whole core (λ R n. Off R n) e
-    (λ R. Idle-kept (May core R) machine Fits e Rep keeps (Off R) (λ n x d w. Idle codec R n x d w)) steady
-    (λ R low most. sound-engine (May core R) machine Fits e Rep keeps (Off R) (λ n x d w. Idle codec R n x d w) fits_told (λ n x d w h. h.fits) (sound codec R low most))
-    (λ R n low most few. off_first R n begins_alike)
+    whole core (λ R n. Off codec R n) e
+    (λ R. Idle-kept (May core R) (machine_by codec.reading) Fits e Rep keeps (Off codec R) (λ n x d w. Idle codec R n x d w)) steady
+    (λ R low most. sound-engine (May core R) (machine_by codec.reading) Fits e Rep keeps (Off codec R) (λ n x d w. Idle codec R n x d w) (fits_told codec.reading) (λ n x d w h. h.fits) (sound codec R low most))
+    (λ R n low most few. off_first codec R n begins_alike)

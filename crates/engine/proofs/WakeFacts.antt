@@ -78,12 +78,12 @@ stopped_same d cs a b =
     let q = left_all d.second (get_or cs 2 0) (get_or cs 3 0) b in
     λ i. record { first = p i; second = q i; room = d.room }
 
-pub off_stays : {R : ℕ} {d : Device} {k : Kept} → OffAt R d k → (cs : List ℕ) → OffAt R (stopped d cs) k
-off_stays {R} {d} {k} h cs = subst (λ z. OffAt R z k) (sym (stopped_same d cs h.fast_first h.fast-second)) h
+pub off_stays : {codec : Codec} {R : ℕ} {d : Device} {k : Kept} → OffAt codec R d k → (cs : List ℕ) → OffAt codec R (stopped d cs) k
+off_stays {codec} {R} {d} {k} h cs = subst (λ z. OffAt codec R z k) (sym (stopped_same d cs h.fast_first h.fast-second)) h
 
 -- the generation of a tape is that of the first record
-pub head_is : (codec : Codec) (d : Device) (t : ℕ) → head_of (record_of (read_record d t 0)) ≡ generation (tapes record_of d t)
-head_is codec d t = ap head_of (reads record_of d t 0 codec.empty) ∙ first (tapes record_of d t)
+pub head_is : (codec : Codec) (d : Device) (t : ℕ) → head_of (codec.reading (read_record d t 0)) ≡ generation (tapes codec.reading d t)
+head_is codec d t = ap head_of (reads codec.reading d t 0 codec.empty) ∙ first (tapes codec.reading d t)
   where
     first : (T : List (Rec News)) → head_of (get_or T 0 broken) ≡ generation T
     first [] = refl
@@ -98,5 +98,5 @@ off_generations d (recovery.counts {g = g} sides cycle e n k) = pair sides (let 
     pair back p q = (q, p)
 
 -- a stop on the way
-pub asleep : {R n : ℕ} {w : Plain} {k : Kept} → Held w k → kept_weight k ≤ 32 * R → (d : Device) → ((cs : List ℕ) → OffAt R (stopped d cs) k) → Asleep (May core R) (Off R n) w d []
+pub asleep : {codec : Codec} {R n : ℕ} {w : Plain} {k : Kept} → Held w k → kept_weight k ≤ 32 * R → (d : Device) → ((cs : List ℕ) → OffAt codec R (stopped d cs) k) → Asleep (May core R) (Off codec R n) w d []
 asleep {k = k} held light d f = record { silent = refl; holds = λ cs. record { kept = k; held = held; light = light; off = f cs } }

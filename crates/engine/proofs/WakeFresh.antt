@@ -17,7 +17,7 @@ use Rattle.commands.specs.Smalls.{smalls_of}
 use Rattle.commands.specs.Held.{Held}
 use Rattle.engine.specs.State.{House, Phase, idle, fresh_begun, fresh_head, fresh_fast, tapes_of}
 use Rattle.engine.specs.Fits.{Fits, RecordFits, ReplayFits}
-use Rattle.engine.specs.Machine.{machine, wake_by}
+use Rattle.engine.specs.Machine.{machine_by, wake_by}
 use Rattle.engine.proofs.Facts.{Codec, OffAt, Off, Idle, quiet, Quiet, lines_of_kept}
 use Rattle.engine.proofs.Course.{go_next, puts, begins, fastens}
 use Rattle.engine.proofs.Devices.{left_short, firm-off, room_for}
@@ -38,13 +38,13 @@ no_heads (suc g) zero e = absurd (let z : ◌≡◌ {A = ℕ} 0 1 = cc in omega 
 no_heads (suc g) (suc h) e = absurd (one_of (eqb (suc h) (next_generation (suc g))) e)
 
 module _
-    (codec : Codec) (R n : ℕ) (enough : 1024 ≤ R) (at_most : R ≤ 1048576) {w : Plain} (k : Kept) (held : Held w k) (light : kept_weight k ≤ 32 * R) (d : Device) (off : OffAt R d k)
-    (no_lines : lines_of_kept k ≡ []) (no-small : smalls_of k ≡ no_state) (no_head : generation (tapes record_of d 1) ≡ 0)
+    (codec : Codec) (R n : ℕ) (enough : 1024 ≤ R) (at_most : R ≤ 1048576) {w : Plain} (k : Kept) (held : Held w k) (light : kept_weight k ≤ 32 * R) (d : Device) (off : OffAt codec R d k)
+    (no_lines : lines_of_kept k ≡ []) (no-small : smalls_of k ≡ no_state) (no_head : generation (tapes codec.reading d 1) ≡ 0)
   where
     abbrev Wakes : Where House → Type 0
-    Wakes p = Goes machine (Asleep (May core R) (Off R n) w) (Awoke (May core R) (λ x d₁ s. Idle codec R n x d₁ s) w) p
+    Wakes p = Goes (machine_by codec.reading) (Asleep (May core R) (Off codec R n) w) (Awoke (May core R) (λ x d₁ s. Idle codec R n x d₁ s) w) p
 
-    abbrev can_stop : (d₁ : Device) → ((cs : List ℕ) → OffAt R (stopped d₁ cs) k) → Asleep (May core R) (Off R n) w d₁ []
+    abbrev can_stop : (d₁ : Device) → ((cs : List ℕ) → OffAt codec R (stopped d₁ cs) k) → Asleep (May core R) (Off codec R n) w d₁ []
     can_stop = asleep held light
 
     abbrev first-page : Page
@@ -62,35 +62,35 @@ module _
     head-fits : RecordFits (head 1 0)
     head-fits = let a : 1 ≤ 1 = omega arith in let b : 1 ≤ 3 = omega arith in let c : 0 < 4294967296 = omega arith in (a, b, c)
 
-    layout : Layout record_of begun-device 0 1 [] [] (tapes record_of d 1) []
-    layout = layout-swap record_of (layout-begin-old record_of (wake_layout record_of d off.fast_first off.fast-second ahead))
+    layout : Layout codec.reading begun-device 0 1 [] [] (tapes codec.reading d 1) []
+    layout = layout-swap codec.reading (layout-begin-old codec.reading (wake_layout codec.reading d off.fast_first off.fast-second ahead))
 
-    no-head-behind : generation (tapes record_of d 1 ++ []) ≡ 0
-    no-head-behind = ap generation (append-nil (tapes record_of d 1)) ∙ no_head
+    no-head-behind : generation (tapes codec.reading d 1 ++ []) ≡ 0
+    no-head-behind = ap generation (append-nil (tapes codec.reading d 1)) ∙ no_head
 
     -- a stop on the way leaves nothing kept
     empty-off : (d₁ : Device) → d₁.room ≡ R → length d₁.first.records ≤ R → length d₁.second.records ≤ R →
-        ((cs : List ℕ) → recovery.Off updated no_state ReplayFits (tapes record_of (stopped d₁ cs)) [] no_state) → (cs : List ℕ) → OffAt R (stopped d₁ cs) k
+        ((cs : List ℕ) → recovery.Off updated no_state ReplayFits (tapes codec.reading (stopped d₁ cs)) [] no_state) → (cs : List ℕ) → OffAt codec R (stopped d₁ cs) k
     empty-off d₁ e a b f cs = record {
       room = e;
       fast_first = refl;
       fast-second = refl;
       fits_first = let q = left_short d₁.first (get_or cs 0 0) (get_or cs 1 0) in omega arith;
       fits-second = let q = left_short d₁.second (get_or cs 2 0) (get_or cs 3 0) in omega arith;
-      log = subst (λ ls. recovery.Off updated no_state ReplayFits (tapes record_of (stopped d₁ cs)) ls (smalls_of k)) (sym no_lines)
-          (subst (λ s. recovery.Off updated no_state ReplayFits (tapes record_of (stopped d₁ cs)) [] s) (sym no-small) (f cs));
+      log = subst (λ ls. recovery.Off updated no_state ReplayFits (tapes codec.reading (stopped d₁ cs)) ls (smalls_of k)) (sym no_lines)
+          (subst (λ s. recovery.Off updated no_state ReplayFits (tapes codec.reading (stopped d₁ cs)) [] s) (sym no-small) (f cs));
     }
 
-    begun-off : (cs : List ℕ) → OffAt R (stopped begun-device cs) k
-    begun-off = empty-off begun-device off.room (omega arith) off.fits-second (λ cs. recovery.empty-stop updated no_state ReplayFits record_of codec.torn cs layout refl no-head-behind)
+    begun-off : (cs : List ℕ) → OffAt codec R (stopped begun-device cs) k
+    begun-off = empty-off begun-device off.room (omega arith) off.fits-second (λ cs. recovery.empty-stop updated no_state ReplayFits codec.reading codec.torn cs layout refl no-head-behind)
 
     one-record : length headed.first.records ≤ R
     one-record = omega arith
 
-    headed-off : (cs : List ℕ) → OffAt R (stopped headed cs) k
+    headed-off : (cs : List ℕ) → OffAt codec R (stopped headed cs) k
     headed-off = empty-off headed off.room one-record off.fits-second
-        (λ cs. recovery.first-stop updated no_state ReplayFits record_of codec.torn cs nothing_kept
-        (subst (λ r. Layout record_of headed 0 1 [] (r ∷ []) (tapes record_of d 1) []) (codec.reads (head 1 0) head-fits) (layout-put-old record_of layout first-page)) no-head-behind)
+        (λ cs. recovery.first-stop updated no_state ReplayFits codec.reading codec.torn cs nothing_kept
+        (subst (λ r. Layout codec.reading headed 0 1 [] (r ∷ []) (tapes codec.reading d 1) []) (codec.reads (head 1 0) head-fits) (layout-put-old codec.reading layout first-page)) no-head-behind)
 
     -- the head is fast
     first-quiet : (ph : Phase) → Quiet codec R true (fastened headed 0) (waking ph (tapes_of d.room 0 1 1 false 0 0) (state [] [] no_state)) k
@@ -107,9 +107,9 @@ module _
       };
       not-busy = refl;
       cursor = refl;
-      log = subst (λ ls. lifecycle.Active updated no_state ReplayFits record_of codec.torn true (fastened headed 0) 0 1 1 1 [] ls (smalls_of k)) (sym no_lines)
-          (subst (λ s. lifecycle.Active updated no_state ReplayFits record_of codec.torn true (fastened headed 0) 0 1 1 1 [] [] s) (sym no-small)
-          (lifecycle.first_active updated no_state ReplayFits record_of codec.torn first-page (wake_layout record_of d off.fast_first off.fast-second ahead) no-head-behind (codec.reads (head 1 0) head-fits) nothing_kept));
+      log = subst (λ ls. lifecycle.Active updated no_state ReplayFits codec.reading codec.torn true (fastened headed 0) 0 1 1 1 [] ls (smalls_of k)) (sym no_lines)
+          (subst (λ s. lifecycle.Active updated no_state ReplayFits codec.reading codec.torn true (fastened headed 0) 0 1 1 1 [] [] s) (sym no-small)
+          (lifecycle.first_active updated no_state ReplayFits codec.reading codec.torn first-page (wake_layout codec.reading d off.fast_first off.fast-second ahead) no-head-behind (codec.reads (head 1 0) head-fits) nothing_kept));
     }
 
     pub fresh-leads : (ph : Phase) (g h r : ℕ) → g ≤ 3 → Wakes (after_did d [] r (wake_by neither g h (waking ph (tapes_of d.room 0 g 0 false 0 0) (state [] [] no_state))))
@@ -117,12 +117,12 @@ module _
         let room : d.room ≤ 1048576 = let e = off.room in omega arith in
         let has = room_for begun-device 0 R 0 first-page (omega arith) off.room refl (omega arith) (codec.pages (head 1 0) head-fits) in
         let fits : (ph₁ : Phase) → Fits (waking ph₁ (tapes_of d.room 0 1 1 false 0 0) (state [] [] no_state)) = λ ph₁. waking-fits (tapes_fit room (omega arith) (omega arith) (omega arith)) nothing-fits in
-        begins d 0 (omega arith)
-        (go_next fresh_begun refl (waking-fits (tapes_fit room (omega arith) low (omega arith)) nothing-fits) (can_stop begun-device begun-off)
-        (puts begun-device 0 first-page has
-        (go_next fresh_head refl (fits fresh_head) (can_stop headed headed-off)
-        (fastens headed 0 (omega arith)
-        (go_next fresh_fast refl (fits fresh_fast) (can_stop (fastened headed 0) (firm-off codec R k (quiet-firm codec (quiet_at codec (first-quiet fresh_fast)))))
+        begins codec.reading d 0 (omega arith)
+        (go_next codec.reading fresh_begun refl (waking-fits (tapes_fit room (omega arith) low (omega arith)) nothing-fits) (can_stop begun-device begun-off)
+        (puts codec.reading begun-device 0 first-page has
+        (go_next codec.reading fresh_head refl (fits fresh_head) (can_stop headed headed-off)
+        (fastens codec.reading headed 0 (omega arith)
+        (go_next codec.reading fresh_fast refl (fits fresh_fast) (can_stop (fastened headed 0) (firm-off codec R k (quiet-firm codec (quiet_at codec (first-quiet fresh_fast)))))
         (is_over (record {
           well = refl;
           silent = refl;

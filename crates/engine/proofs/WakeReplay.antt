@@ -22,7 +22,7 @@ use Rattle.commands.specs.Smalls.{smalls_of}
 use Rattle.commands.specs.Held.{Held}
 use Rattle.engine.specs.State.{House, idle, replaying, tapes_of, with_store, with_pending}
 use Rattle.engine.specs.Fits.{Fits, ReplayFits, none}
-use Rattle.engine.specs.Machine.{machine, begin_other, replay_record, no_limit}
+use Rattle.engine.specs.Machine.{machine_by, begin_other, replay_record, no_limit}
 use Rattle.engine.proofs.Facts.{Codec, OffAt, Off, Idle, quiet, lines_of_kept}
 use Rattle.engine.proofs.Course.{go_record, asks, chosen}
 use Rattle.engine.proofs.Devices.{side_first, sides_is, Firm, firm-off}
@@ -44,8 +44,8 @@ pub record Found (codec : Codec) (R : ℕ) (d : Device) (k : Kept) (t g : ℕ) :
   pub other : ℕ
   pub dir : List Position
   pub records : List (Rec News)
-  pub is : tapes record_of d t ≡ records
-  pub log : lifecycle.Active updated no_state ReplayFits record_of codec.torn false d t other g (length records) dir (lines_of_kept k) (smalls_of k)
+  pub is : tapes codec.reading d t ≡ records
+  pub log : lifecycle.Active updated no_state ReplayFits codec.reading codec.torn false d t other g (length records) dir (lines_of_kept k) (smalls_of k)
   pub tape_is : log.T ≡ records
   pub room : d.room ≡ R
   pub low : g ≤ 3
@@ -54,9 +54,9 @@ pub record Found (codec : Codec) (R : ℕ) (d : Device) (k : Kept) (t g : ℕ) :
 
 module _ (codec : Codec) (R n : ℕ) (enough : 1024 ≤ R) (at_most : R ≤ 1048576) {w : Plain} (k : Kept) (held : Held w k) (light : kept_weight k ≤ 32 * R) (d : Device) (t g : ℕ) (h : Found codec R d k t g) where
   abbrev Wakes : Where House → Type 0
-  Wakes p = Goes machine (Asleep (May core R) (Off R n) w) (Awoke (May core R) (λ x d₁ s. Idle codec R n x d₁ s) w) p
+  Wakes p = Goes (machine_by codec.reading) (Asleep (May core R) (Off codec R n) w) (Awoke (May core R) (λ x d₁ s. Idle codec R n x d₁ s) w) p
 
-  abbrev can_stop : (d₁ : Device) → ((cs : List ℕ) → OffAt R (stopped d₁ cs) k) → Asleep (May core R) (Off R n) w d₁ []
+  abbrev can_stop : (d₁ : Device) → ((cs : List ℕ) → OffAt codec R (stopped d₁ cs) k) → Asleep (May core R) (Off codec R n) w d₁ []
   can_stop = asleep held light
 
   abbrev replayed : ℕ → State Small → House
@@ -79,8 +79,8 @@ module _ (codec : Codec) (R n : ℕ) (enough : 1024 ≤ R) (at_most : R ≤ 1048
           used-fits = l;
         };
         long-fits = h.long-fits;
-        log = subst (λ z. lifecycle.Active updated no_state ReplayFits record_of codec.torn false d t z g (length h.records) s.dir (lines_of_kept k) (smalls_of k)) (sym y)
-            (subst (λ z. lifecycle.Active updated no_state ReplayFits record_of codec.torn false d t h.other g (length h.records) z (lines_of_kept k) (smalls_of k)) (sym shows.dir ∙ ap (λ z. z.dir) same) h.log);
+        log = subst (λ z. lifecycle.Active updated no_state ReplayFits codec.reading codec.torn false d t z g (length h.records) s.dir (lines_of_kept k) (smalls_of k)) (sym y)
+            (subst (λ z. lifecycle.Active updated no_state ReplayFits codec.reading codec.torn false d t h.other g (length h.records) z (lines_of_kept k) (smalls_of k)) (sym shows.dir ∙ ap (λ z. z.dir) same) h.log);
       }
 
   firm : Firm codec R k d t h.other g
@@ -117,7 +117,7 @@ module _ (codec : Codec) (R n : ℕ) (enough : 1024 ≤ R) (at_most : R ≤ 1048
 
     told : (z : Rec News) → get_or h.records u broken ≡ z → Wakes (after_did d [] r (replay_record z (replayed u s))) → Wakes (going (replayed u s) d (page (read_record d t u)) [] r)
     told z e go =
-        go_record (read_record d t u) replaying z refl (reads record_of d t u codec.empty ∙ ap (λ T. get_or T u broken) h.is ∙ e) replayed-fits (can_stop d (firm-off codec R k firm)) go
+        go_record codec.reading (read_record d t u) replaying z refl (reads codec.reading d t u codec.empty ∙ ap (λ T. get_or T u broken) h.is ∙ e) replayed-fits (can_stop d (firm-off codec R k firm)) go
 
   -- Q is left behind P
   replay-goes : {u : ℕ} {s : State Small} {Q : List (Rec News)} (P : List (Rec News)) (r : ℕ) → P ++ Q ≡ h.records → length P ≡ u → Intact P → s ≡ replay updated no_state t P →
@@ -137,7 +137,7 @@ module _ (codec : Codec) (R n : ℕ) (enough : 1024 ≤ R) (at_most : R ≤ 1048
       (intact-append P (z ∷ []) whole (rw q refl)) (ap (λ y. after updated t u y z) gives ∙ ap (λ i. after updated t i (replay updated no_state t P) z) (sym long) ∙ sym (replay_next updated no_state t P z whole q)) rest))
     where
       go : (b : Bool) → intact z ≡ b → u ≤ R → (intact z ≡ true → Wakes (going (replayed (suc u) (after updated t u s z)) d (page (read_record d t (suc u))) [] (suc r))) → Wakes (after_did d [] r (replay_record z (replayed u s)))
-      go true e below on = chosen (λ y. Wakes (after_did d [] r y)) (intact z) true _ _ e (asks d t (suc u) (side_first h.log.layout.sides) (on e))
+      go true e below on = chosen (λ y. Wakes (after_did d [] r y)) (intact z) true _ _ e (asks codec.reading d t (suc u) (side_first h.log.layout.sides) (on e))
       go false e below on =
           let same : P ++ broken ∷ Q ≡ h.records = ap (λ y. P ++ y ∷ Q) (sym (not-intact z e)) ∙ parts in
           chosen (λ y. Wakes (after_did d [] r y)) (intact z) false _ _ e

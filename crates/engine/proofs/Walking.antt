@@ -124,7 +124,7 @@ module _ (codec : Codec) (R n : ℕ) {w : Plain} {t : List ℕ} (C : Course R w 
           let f : Fits y = fits-walk row_shown fits (walking-fits (suc i) 0 (went + (64 + length l)) [] u (omega arith) v (omega arith) refl) in
           subst (λ z. Leads codec R n C (after_did d ss r₁ z)) (sym (shown_piece b (piece_of l j) (at_part j)))
           (chosen (λ (y : Does). Leads codec R n C (after_did d ss r₁ y)) (ltb (suc j) (records_of (length l))) false _ _ (le-ltb (suc j) (records_of (length l)) (omega arith))
-          (subst (λ z. Leads codec R n C (going y d next (ss ++ row_at b i z ∷ []) r₁)) (sym (line-joined [] l j e long)) (go_next row_shown refl f s (then r₁ q))))
+          (subst (λ z. Leads codec R n C (going y d next (ss ++ row_at b i z ∷ []) r₁)) (sym (line-joined [] l j e long)) (go_next codec.reading row_shown refl f s (then r₁ q))))
 
   pub show_from : (b : Bool) (ls : List (List ℕ)) (ph : Phase) (i went total : ℕ) (ss : List (List ℕ)) (r : ℕ) {more : List (List ℕ)} {c : ℕ} → x.job.plan.walk ≡ shown_walk b →
       Ahead k.text ls i x.job.plan.upto → went + lines_size ls ≡ total → Word total → On-course codec R n C ss (walk_rows (shown_walk b) (suc i) ls ++ more) r (3 * length ls + c) →

@@ -2,6 +2,7 @@
 use Rattle.std.specs.Prelude.{ℕ, suc, ◌+◌, ◌-◌, Bool, true, false, ◌&&◌, List, [], ◌∷◌, ◌++◌, length, ◌==◌, nat_lt}
 use Rattle.plain.specs.Pattern.{pick, or, eight}
 use Rattle.plain.specs.Command.{Simple, Command, plain, all_lines, reads}
+use Rattle.plain.specs.Device.{Page}
 use Rattle.plain.specs.Run.{Event, on, said, page, next, read, put_on, fasten, begin, shows}
 use Rattle.journal.specs.Log.{Position, Rec, head, line, state, intact, after, Piece, piece_in, head_of, Which, neither, only, choose}
 use Rattle.journal.specs.Small.{Small, News, updated, no_state}
@@ -172,12 +173,19 @@ on_next commit_fast x = after_fast x
 on_next count_shown x = ends_done x
 on_next file_shown x = show_files (suc x.carrying.index) x
 
+-- a page is taken for the record that `reading` finds in it
+unfoldable pub answers_by : (Page → Rec News) → House → Event → Does
+answers_by reading x (on room) = did (at_phase wake_first (starting room)) (read 0 0)
+answers_by reading x (said t) = obey (reads t) x
+answers_by reading x (page p) = on_record x.phase (reading p) x
+answers_by reading x next = on_next x.phase x
+
 unfoldable pub answers : House → Event → Does
-answers x (on room) = did (at_phase wake_first (starting room)) (read 0 0)
-answers x (said t) = obey (reads t) x
-answers x (page p) = on_record x.phase (record_of p) x
-answers x next = on_next x.phase x
+answers = answers_by record_of
 
 -- THE MACHINE: it may be told anything where its state fits
+unfoldable pub machine_by : (Page → Rec News) → Machine House
+machine_by reading = record { start = starting 0; step = answers_by reading; Ok = λ x ev. Fits x }
+
 unfoldable pub machine : Machine House
-machine = record { start = starting 0; step = answers; Ok = λ x ev. Fits x }
+machine = machine_by record_of
