@@ -5,7 +5,7 @@ use Rattle.plain.specs.Device.{lesser}
 use Rattle.journal.specs.Log.{Source, no_entries, new_entries, copied, Splice, splice}
 use Rattle.journal.specs.Small as small
 use Rattle.journal.specs.Small.{entry}
-use Rattle.records.specs.Pages.{cut_news}
+use Rattle.records.specs.Checked.{cut_news}
 use Rattle.commands.specs.Code.{splice_as}
 use Rattle.engine.specs.Machine as machine
 use Rattle.memory.specs.declared.kept.Kept.{Kept}

@@ -4,7 +4,8 @@ ghost use Rattle.std.specs.Prelude.{◌≡◌, ◌+◌, ◌≤◌, ◌++◌, len
 ghost use Rattle.commands.specs.Code.{splice_as};
 ghost use Rattle.journal.specs.Log.{commit as a_commit};
 ghost use Rattle.memory.specs.Abstract.{name_of};
-ghost use Rattle.records.specs.Pages.{page_of, cut_splice};
+ghost use Rattle.records.specs.Pages.{page_of};
+ghost use Rattle.records.specs.Checked.{cut_splice};
 ghost use Rattle.records.specs.Values.{news_of};
 ghost use Rattle.commits.specs.Acts.{Says};
 ghost use Rattle.commits.specs.Bounds.{Loose};

@@ -1,7 +1,7 @@
 //! The end of a command: its lines and its commit are put on the tapes, and its last rows are shown.
 
 mod commit;
-mod lines;
+mod line_parts;
 mod news;
 mod putting;
 mod rows;

@@ -7,7 +7,7 @@ ghost use Rattle.memory.specs.Abstract.{house_of, job_lines, name_of, text_of};
 ghost use Rattle.journal.specs.Small.{news, nothing_else};
 ghost use Rattle.records.specs.Values.{also_of, news_of, source_of, splice_of};
 ghost use Rattle.commits.specs.Bounds.{Loose, Wide};
-ghost use Rattle.records.specs.Pages.{cut, cut_also, cut_news, cut_source, cut_splice};
+ghost use Rattle.records.specs.Checked.{cut, cut_also, cut_news, cut_source, cut_splice};
 ghost use Rattle.commits.specs.News.{also_as, clamped, news_as, within as inside};
 
 use commands::{Source, Splice, Update, stand_size};

@@ -5,7 +5,7 @@ ghost use Rattle.commits.specs.Acts.{Says};
 ghost use Rattle.commits.specs.Bounds.{Loose};
 ghost use Rattle.commits.specs.Putting.{put_next, start_pass, after_line, after_commit, after_fast};
 
-use crate::{Told, commit, finish, lines};
+use crate::{Told, commit, finish, line_parts};
 use memory::{Phase, Putting, Registers};
 
 /// Puts on the next record: of the first line that is left, or the commit.
@@ -14,7 +14,7 @@ pub fn put_next(registers: &mut Registers, memory: &mut [u64], out: &mut [u8]) -
     ensures { Says (put_next registers.old memory.old) registers.new memory.new result out.old out.new }
 {
     if registers.putting.more {
-        lines::put_piece(registers, memory, out)
+        line_parts::put_piece(registers, memory, out)
     } else {
         commit::put_commit(registers, memory, out)
     }
@@ -48,7 +48,7 @@ pub fn after_line(registers: &mut Registers, memory: &mut [u64], out: &mut [u8])
     if !registers.putting.more {
         return commit::put_commit(registers, memory, out);
     }
-    registers.putting = lines::put_further(registers, memory);
+    registers.putting = line_parts::put_further(registers, memory);
     put_next(registers, memory, out)
 }
 

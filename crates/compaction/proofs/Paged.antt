@@ -4,7 +4,8 @@ use lib.ListN.{length-map}
 use Rattle.plain.specs.Device.{Page}
 use Rattle.journal.specs.Log.{head, copy, commit, piece_in, Splice}
 use Rattle.journal.specs.Small.{News}
-use Rattle.records.specs.Pages.{page_of, record_of, four, entry_in, name_in, closed}
+use Rattle.records.specs.Pages.{page_of, four, entry_in, name_in, closed}
+use Rattle.records.specs.Checked.{checked_record_of}
 use Rattle.records.specs.declared.Also.{Also}
 use Rattle.records.specs.declared.Also.TheVariants as also
 use Rattle.records.specs.declared.Numbers.{Numbers}
@@ -24,11 +25,11 @@ head-laid g g₁ n out out₁ e h =
     (h ∙ ap (λ t. (1 ∷ t ++ (four n ++ closed 502 [])) ++ drop 512 out) (four_cut g₁ ∙ ap four e))
 
 -- A COPY of what was read
-pub copy-laid : (i j : ℕ) (p : Page) (out out₁ : List ℕ) → out₁ ≡ page_of (copy i j (piece_in (record_of p))) ++ drop 512 out → out₁ ≡ laid (page_of (copy i j (piece_in (record_of p)))) out
+pub copy-laid : (i j : ℕ) (p : Page) (out out₁ : List ℕ) → out₁ ≡ page_of (copy i j (piece_in (checked_record_of p))) ++ drop 512 out → out₁ ≡ laid (page_of (copy i j (piece_in (checked_record_of p)))) out
 unfolding page_of
 copy-laid i j p out out₁ h =
-    laid-over (page_of (copy i j (piece_in (record_of p)))) out out₁
-    (ap (λ t. suc (suc (suc (suc (suc (suc (suc (suc t)))))))) (length-closed 503 (piece_in (record_of p)).bytes (piece-short p))) h
+    laid-over (page_of (copy i j (piece_in (checked_record_of p)))) out out₁
+    (ap (λ t. suc (suc (suc (suc (suc (suc (suc (suc t)))))))) (length-closed 503 (piece_in (checked_record_of p)).bytes (piece-short p))) h
 
 -- A COMMIT
 pub commit-laid : (c : Splice) (u : News) (out out₁ : List ℕ) → length (name_in u) ≤ 64 → out₁ ≡ page_of (commit c u) ++ drop 512 out → out₁ ≡ laid (page_of (commit c u)) out

@@ -5,7 +5,8 @@ use Rattle.plain.specs.Device.{Page}
 use Rattle.plain.specs.Run.{read, put_on, fasten, begin}
 use Rattle.journal.specs.Log.{no_splice, head, copy, commit, Piece, piece_in, next_generation}
 use Rattle.journal.specs.Small.{set_up_of}
-use Rattle.records.specs.Pages.{page_of, record_of}
+use Rattle.records.specs.Pages.{page_of}
+use Rattle.records.specs.Checked.{checked_record_of}
 use Rattle.engine.specs.Packing.{records_of}
 use Rattle.engine.specs.Machine.{no_news}
 use Rattle.memory.specs.declared.phase.Phase.TheVariants.{CompactBegun, SettingUp, CarryRead, CarryPut, CompactFast, Switched}
@@ -41,7 +42,7 @@ carry r m = pick (r.carrying.quota == 0) (go_on r m) (carry_entry (next_entry r 
 
 -- a record of it was read
 abbrev pub piece_of_page : Page → Piece
-piece_of_page p = piece_in (record_of p)
+piece_of_page p = piece_in (checked_record_of p)
 
 unfoldable pub carry_piece : Page → Registers → List ℕ → Made
 carry_piece p r m =

@@ -6,6 +6,8 @@ use Rattle.journal.specs.Log.{Source, no_entries, new_entries, copied, Splice, P
 use Rattle.journal.specs.Small.{Entry, Also, nothing_else, push, slot, News}
 use Rattle.records.specs.Pages as pages
 use Rattle.records.specs.Pages.{SmallNumber, record_of}
+use Rattle.records.specs.Checked.{checked_record_of}
+use Rattle.records.proofs.Checks.{Beside, checked_back, checked_torn, checked_none}
 use Rattle.records.proofs.Pages.{page-back, page-whole, torn-broken, none_broken}
 use Rattle.engine.specs.Fits.{Word, entry_fits, SourceFits, SpliceFits, AlsoFits, NewsFits, PieceFits, RecordFits}
 use Rattle.engine.proofs.Facts.{Codec}
@@ -52,4 +54,21 @@ codec = record {
   pages = λ r f. page-whole r (record_fits r f);
   torn = torn-broken;
   empty = none_broken;
+}
+
+-- THE SAME, where what is read back is checked
+beside-of : (r : Rec News) → RecordFits r → Beside r
+beside-of (head g n) f = tt
+beside-of (line j b) f = tt
+beside-of (copy i j b) f = tt
+beside-of (commit c u) f = f.0.beside
+beside-of broken f = tt
+
+pub codec_checked : Codec
+codec_checked = record {
+  reading = checked_record_of;
+  reads = λ r f. checked_back r (record_fits r f) (beside-of r f);
+  pages = λ r f. page-whole r (record_fits r f);
+  torn = checked_torn;
+  empty = checked_none;
 }

@@ -8,7 +8,8 @@ use Rattle.plain.specs.Device.{Page}
 use Rattle.journal.specs.Log.{Piece, Rec, head, line, copy, commit, broken, piece_in}
 use Rattle.journal.specs.Small.{News}
 use Rattle.records.specs.Lines.{share}
-use Rattle.records.specs.Pages.{record_of, by_kind, sealed, two_at, four_at, piece_in_page, splice_in_page, news_in_page}
+use Rattle.records.specs.Pages.{by_kind, sealed, two_at, four_at, piece_in_page, splice_in_page, news_in_page}
+use Rattle.records.specs.Checked.{checked_record_of}
 use Rattle.commands.proofs.Resolved.{pick_both}
 use Rattle.commands.specs.Code.{walk_as}
 use Rattle.engine.specs.Machine.{walks}

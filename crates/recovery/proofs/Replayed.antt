@@ -3,7 +3,7 @@ use Rattle.std.proofs.Common.{◌≡◌, ℕ, suc, ◌+◌, ◌*◌, List, refl,
 use Rattle.plain.specs.Device.{Page}
 use Rattle.journal.specs.Log.{Rec}
 use Rattle.journal.specs.Small.{News}
-use Rattle.records.specs.Pages.{record_of}
+use Rattle.records.specs.Checked.{checked_record_of}
 use Rattle.memory.specs.declared.registers.Registers.{Registers}
 use Rattle.commits.specs.declared.Told.{Told}
 use Rattle.commits.specs.declared.Told.TheVariants.{Read}
@@ -20,7 +20,7 @@ next_said c r r₁ r₂ m m₁ told out a b t e = record {
   act = (t ∙ ap (λ z. Read (2 * suc z.tapes.used + z.tapes.active)) a, refl);
 }
 
-pub replayed_as : (p : Page) (x : Rec News) (r r₁ : Registers) (m m₁ : List ℕ) (told : Told) (out : List ℕ) → x ≡ record_of p → Says (replay_by x r m) r₁ m₁ told out out
+pub replayed_as : (p : Page) (x : Rec News) (r r₁ : Registers) (m m₁ : List ℕ) (told : Told) (out : List ℕ) → x ≡ checked_record_of p → Says (replay_by x r m) r₁ m₁ told out out
     → Says (replay_record p r m) r₁ m₁ told out out
 unfolding replay_record
 replayed_as p x r r₁ m m₁ told out e s = subst (λ z. Says (replay_by z r m) r₁ m₁ told out out) e s

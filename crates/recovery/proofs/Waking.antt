@@ -3,7 +3,7 @@ use Rattle.std.proofs.Common.{◌≡◌, ℕ, ◌+◌, ◌*◌, false, eqb, List
 use Rattle.plain.specs.Pattern.{pick}
 use Rattle.plain.specs.Device.{Page}
 use Rattle.journal.specs.Log.{Which, neither, only, choose, head_of}
-use Rattle.records.specs.Pages.{record_of}
+use Rattle.records.specs.Checked.{checked_record_of}
 use Rattle.memory.specs.declared.phase.Phase.TheVariants.{FreshBegun, Replaying}
 use Rattle.memory.specs.declared.registers.Registers.{Registers}
 use Rattle.commits.specs.declared.Told.{Told}
@@ -12,7 +12,7 @@ use Rattle.commits.specs.Acts.{ActTold, Says}
 use Rattle.commits.specs.Setters.{tapes, in_phase, with_tapes}
 use Rattle.recovery.specs.Wake.{woke_second, wake_by}
 
-module _ (p : Page) (r : Registers) (h : ℕ) (heads : h ≡ head_of (record_of p)) (m out : List ℕ) where
+module _ (p : Page) (r : Registers) (h : ℕ) (heads : h ≡ head_of (checked_record_of p)) (m out : List ℕ) where
   pub woke_fresh : neither ≡ choose r.tapes.generation h → Says (woke_second p r m) (in_phase FreshBegun r) m (Begin 0) out out
   unfolding woke_second ActTold
   woke_fresh e =

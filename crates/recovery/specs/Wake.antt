@@ -5,7 +5,8 @@ use Rattle.plain.specs.Device.{Page, lesser}
 use Rattle.plain.specs.Run.{read, put_on, fasten, begin}
 use Rattle.journal.specs.Log.{Rec, head, line, copy, commit, broken, Which, neither, only, choose, head_of}
 use Rattle.journal.specs.Small.{News}
-use Rattle.records.specs.Pages.{page_of, record_of}
+use Rattle.records.specs.Pages.{page_of}
+use Rattle.records.specs.Checked.{checked_record_of}
 use Rattle.commands.specs.declared.plan.Walk.TheVariants as walk
 use Rattle.commands.specs.declared.plan.Update.TheVariants as update
 use Rattle.commands.specs.declared.plan.Rows.TheVariants as rows
@@ -53,7 +54,7 @@ abbrev pub with_generation : ℕ → Tapes → Tapes
 with_generation g t = tapes t.room t.active g t.used t.busy t.other t.cursor
 
 unfoldable pub woke_first : Page → Registers → List ℕ → Made
-woke_first p r m = made (in_phase WakeSecond (with_tapes (with_generation (head_of (record_of p)) r.tapes) r)) m (read 1 0)
+woke_first p r m = made (in_phase WakeSecond (with_tapes (with_generation (head_of (checked_record_of p)) r.tapes) r)) m (read 1 0)
 
 abbrev pub wake_by : Which → ℕ → Registers → List ℕ → Made
 wake_by neither h r m = made (in_phase FreshBegun r) m (begin 0)
@@ -61,7 +62,7 @@ wake_by (only t) h r m =
     made (in_phase Replaying (with_tapes (tapes r.tapes.room t (pick (t == 0) r.tapes.generation h) 0 false 0 0) r)) m (read t 0)
 
 unfoldable pub woke_second : Page → Registers → List ℕ → Made
-woke_second p r m = wake_by (choose r.tapes.generation (head_of (record_of p))) (head_of (record_of p)) r m
+woke_second p r m = wake_by (choose r.tapes.generation (head_of (checked_record_of p))) (head_of (checked_record_of p)) r m
 
 -- REPLAY
 -- a line's first record makes it pending; a copy's is then where the entry lies
@@ -97,7 +98,7 @@ replay_by (commit c u) r m = next_record (commit c u) r m
 replay_by broken r m = begin_other no_limit true (with_kept (with_pending 0 r.kept) r) m
 
 unfoldable pub replay_record : Page → Registers → List ℕ → Made
-replay_record p r m = replay_by (record_of p) r m
+replay_record p r m = replay_by (checked_record_of p) r m
 
 -- NO TAPE COUNTS
 unfoldable pub fresh_first : Registers → List ℕ → Made

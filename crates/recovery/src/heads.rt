@@ -2,7 +2,7 @@
 
 ghost use Rattle.std.specs.Prelude.{◌≡◌, ℕ, false, List};
 ghost use Rattle.journal.specs.Log.{head_of};
-ghost use Rattle.records.specs.Pages.{record_of};
+ghost use Rattle.records.specs.Checked.{checked_record_of};
 ghost use Rattle.memory.specs.declared.phase.Phase.TheVariants.{Replaying};
 ghost use Rattle.memory.specs.Registers.{Tame};
 ghost use Rattle.commits.specs.Acts.{Says};
@@ -13,7 +13,7 @@ use commands::{Plan, Rows, Source, Span, Splice, Update, Walk};
 use commits::Told;
 use journal::{Tape, counting};
 use memory::{Carrying, Job, Kept, Lines, Phase, Putting, Registers, Tapes, Walking};
-use records::{Record, decode};
+use records::{Record, decode_checked};
 
 /// What is kept when nothing was said yet.
 pub fn nothing_kept() -> Kept
@@ -106,9 +106,9 @@ pub fn wake(registers: &mut Registers, room: u64) -> Told
 
 /// The generation that a head names; 0 where there is none.
 fn head_generation(read: &[u8]) -> u32
-    ensures { result ≡ head_of (record_of read.now) }
+    ensures { result ≡ head_of (checked_record_of read.now) }
 {
-    match decode(read) {
+    match decode_checked(read) {
         Record::Head { generation, .. } => generation,
         Record::Line(_) => 0,
         Record::Copy { .. } => 0,

@@ -12,7 +12,7 @@ use crate::clamp::{clamp_record, lesser};
 use commits::Told;
 use compaction::begin_other;
 use memory::{Position, Registers};
-use records::{Numbers, Record, Splice, decode};
+use records::{Numbers, Record, Splice, decode_checked};
 
 /// How many entries the directory has at most.
 const ENTRIES: u32 = 524_289;
@@ -97,7 +97,7 @@ pub fn replay_record(registers: &mut Registers, memory: &mut [u64], read: &[u8])
     requires { (length memory.old ≡ 262144) × (Tame registers.old) }
     ensures { (out : List ℕ) → Says (record_replayed read.now registers.old memory.old) registers.new memory.new result out out }
 {
-    match decode(read) {
+    match decode_checked(read) {
         Record::Head { entries, .. } => {
             replay_head(registers, memory, entries);
             next_record(registers)

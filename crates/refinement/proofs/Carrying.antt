@@ -7,7 +7,8 @@ use Rattle.journal.specs.Machine.{did}
 use Rattle.journal.specs.Log.{state, head, copy, piece_in, next_generation}
 use Rattle.journal.specs.Small.{small, News, news, nothing_else, pushes, slots, set_up_of}
 use Rattle.journal.proofs.Small.{length-pushes, length-slots}
-use Rattle.records.specs.Pages.{page_of, record_of}
+use Rattle.records.specs.Pages.{page_of}
+use Rattle.records.specs.Checked.{checked_record_of}
 use Rattle.engine.specs.State as engine
 use Rattle.engine.specs.State.{House, Phase}
 use Rattle.engine.specs.Fits.{Fits}
@@ -81,7 +82,7 @@ module _ (r : Registers) (m : List ℕ) (h : length m ≡ 262144) where
   unfolding carry_piece
   piece_carried_safe p b = record { bounded = bounded_with r _ _ _ b b.active; kept = kept_same m }
 
-  pub piece_carried_same : (p : Page) → Fits (machine.carry_piece (piece_in (record_of p)) (house_of r m)).state → Same (carry_piece p r m) (machine.carry_piece (piece_in (record_of p)) (house_of r m))
+  pub piece_carried_same : (p : Page) → Fits (machine.carry_piece (piece_in (checked_record_of p)) (house_of r m)).state → Same (carry_piece p r m) (machine.carry_piece (piece_in (checked_record_of p)) (house_of r m))
   unfolding carry_piece house_of
   piece_carried_same p f =
       let few = f.carrying.part in

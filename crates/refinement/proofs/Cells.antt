@@ -6,7 +6,7 @@ use Rattle.plain.specs.Command.{Deed, Simple, Command, plain, all_lines, lines_o
 use Rattle.plain.specs.Run.{Event, on, said, page, next}
 use Rattle.journal.specs.Log.{Rec, head, line, copy, commit, broken, intact, Piece, piece_in, Which, neither, only, choose, head_of}
 use Rattle.journal.specs.Small.{News}
-use Rattle.records.specs.Pages.{record_of}
+use Rattle.records.specs.Checked.{checked_record_of}
 use Rattle.commands.specs.Resolve.{Checked, good, refused}
 use Rattle.commands.specs.Plan as plan
 use Rattle.commands.specs.Plan.{Plan, Walk, skip, show, show_numbered, measure, glue, Update, same_as_before, current_only, the_text, the_file, Rows, no_row, a_number, all_files, sizes}
@@ -199,7 +199,7 @@ pub cells_stay : (x : House) (ev : Event) → Cells x → Cells (machine.answers
 unfolding machine.answers
 cells_stay x (on room) h = tt
 cells_stay x (said t) h = obey_cells (reads t) x
-cells_stay x (page p) h = record_cells x.phase (record_of p) x refl h
+cells_stay x (page p) h = record_cells x.phase (checked_record_of p) x refl h
 cells_stay x next h = next_cells x.phase x h
 
 -- IN THE REGISTERS

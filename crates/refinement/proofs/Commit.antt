@@ -16,7 +16,7 @@ use Rattle.memory.proofs.Filing.{length-files}
 use Rattle.memory.proofs.Frames.{SameText, SameName}
 use Rattle.memory.proofs.Splicing.{can_there, copy-there}
 use Rattle.memory.proofs.Stored.{Committed, applied_means}
-use Rattle.records.specs.Pages.{cut, cut_also, cut_news}
+use Rattle.records.specs.Checked.{cut, cut_also, cut_news}
 use Rattle.commits.specs.News.{clamped, kept_by, applied_by}
 use Rattle.refinement.proofs.Same.{dir-long}
 use Rattle.refinement.proofs.Clamp.{Lesser, first, second, lesser_is, Apart, apply-clamped, can_clamped}

@@ -38,7 +38,7 @@ use Rattle.memory.proofs.Worded.{Ends, line-ends, left_first, left_start}
 use Rattle.commits.specs.Acts.{Made}
 use Rattle.commits.specs.Setters.{putting, with_putting, with_kept, with_tapes, with_cursor, with_other, with_used, in_phase, with_pending}
 use Rattle.commits.specs.Bounds.{Bounded}
-use Rattle.records.specs.Pages.{cut_news}
+use Rattle.records.specs.Checked.{cut_news}
 use Rattle.commits.specs.News.{clamped, kept_by, applied_by, news_in}
 use Rattle.commits.specs.Rows.{finish}
 use Rattle.commits.specs.Putting.{target, target_used, target_longer, last_target, cursor_then, committed, put_commit, line_from, line_to, first_line, pending_then, target_position, noted_pending, put_piece, put_next, passing, start_pass, put_further, after_line, after_commit, after_fast}

@@ -8,7 +8,8 @@ use Rattle.journal.specs.Log.{Position, hole, Rec, head, line, copy, commit, bro
 use Rattle.journal.specs.Small.{Small, small, Also, nothing_else, push, slot, News, updated}
 use Rattle.journal.specs.Machine.{did}
 use Rattle.records.specs.Pages as pages
-use Rattle.records.specs.Pages.{record_of, beside}
+use Rattle.records.specs.Pages.{beside}
+use Rattle.records.specs.Checked.{checked_record_of}
 use Rattle.records.proofs.Read.{commit-words, commit_beside}
 use Rattle.engine.specs.State as engine
 use Rattle.engine.specs.Fits.{Fits, PositionFits}
@@ -26,7 +27,7 @@ use Rattle.memory.proofs.Steadiness.{kept_same}
 use Rattle.memory.proofs.Steadiness as steadiness
 use Rattle.commits.specs.Acts.{Made}
 use Rattle.commits.specs.Bounds.{Bounded}
-use Rattle.records.specs.Pages.{cut, cut_also, cut_news}
+use Rattle.records.specs.Checked.{cut, cut_also, cut_news}
 use Rattle.commits.specs.News.{kept_by, applied_by, clamped}
 use Rattle.commits.specs.Setters.{with_pending, with_entries, with_used, with_kept, with_tapes}
 use Rattle.recovery.specs.Wake.{starting, wake, woke_first, wake_by, woke_second, here, kept_with, memory_with, next_record, replay_by, replay_record, fresh_first, fresh_next}
@@ -76,7 +77,7 @@ module _ (r : Registers) (m : List ℕ) (h : length m ≡ 262144) where
   unfolding woke_first
   first_safe p b = record { bounded = bounded_with r _ _ r.carrying b b.active; kept = kept_same m }
 
-  pub first_same : (p : Page) → Same (woke_first p r m) (did (engine.at_phase engine.wake_second (engine.with_tapes (machine.with_generation (head_of (record_of p)) (house_of r m).tapes) (house_of r m))) (read 1 0))
+  pub first_same : (p : Page) → Same (woke_first p r m) (did (engine.at_phase engine.wake_second (engine.with_tapes (machine.with_generation (head_of (checked_record_of p)) (house_of r m).tapes) (house_of r m))) (read 1 0))
   unfolding woke_first house_of
   first_same p = record { act = refl; state = refl }
 
@@ -91,11 +92,11 @@ module _ (r : Registers) (m : List ℕ) (h : length m ≡ 262144) where
 
   pub second_safe : (p : Page) → Bounded r → Safe m (woke_second p r m)
   unfolding woke_second
-  second_safe p b = by_safe (choose r.tapes.generation (head_of (record_of p))) (head_of (record_of p)) (chosen_side r.tapes.generation (head_of (record_of p))) b
+  second_safe p b = by_safe (choose r.tapes.generation (head_of (checked_record_of p))) (head_of (checked_record_of p)) (chosen_side r.tapes.generation (head_of (checked_record_of p))) b
 
-  pub second_same : (p : Page) → Same (woke_second p r m) (machine.wake_by (choose (house_of r m).tapes.generation (head_of (record_of p))) (house_of r m).tapes.generation (head_of (record_of p)) (house_of r m))
+  pub second_same : (p : Page) → Same (woke_second p r m) (machine.wake_by (choose (house_of r m).tapes.generation (head_of (checked_record_of p))) (house_of r m).tapes.generation (head_of (checked_record_of p)) (house_of r m))
   unfolding woke_second house_of
-  second_same p = by_same (choose r.tapes.generation (head_of (record_of p))) (head_of (record_of p))
+  second_same p = by_same (choose r.tapes.generation (head_of (checked_record_of p))) (head_of (checked_record_of p))
 
 -- A COMMIT THAT WAS READ has numbers of 32 bits
 also-read : (a : Also) → pages.AlsoFits a → cut_also a ≡ a
@@ -127,7 +128,7 @@ module _ (r : Registers) (m : List ℕ) (h : length m ≡ 262144) (p : Page) whe
       go (first g) = omega arith
       go (second g) = omega arith
 
-  kept-bounded : (c : Rec News) → record_of p ≡ c → Bounded r → TameKept (kept_with c r.kept)
+  kept-bounded : (c : Rec News) → checked_record_of p ≡ c → Bounded r → TameKept (kept_with c r.kept)
   kept-bounded (head g n) e b = record { entries = entries_few n; pending = omega arith; count = b.kept.count; current = b.kept.current; weight = b.kept.weight; ring = b.kept.ring; files = b.kept.files }
   kept-bounded (line zero q) e b = record { entries = b.kept.entries; pending = pending_few r.kept.pending; count = b.kept.count; current = b.kept.current; weight = b.kept.weight; ring = b.kept.ring; files = b.kept.files }
   kept-bounded (line (suc j) q) e b = b.kept
@@ -144,7 +145,7 @@ module _ (r : Registers) (m : List ℕ) (h : length m ≡ 262144) (p : Page) whe
   memory_kept (commit c u) = keeping.kept-applied r.kept (clamped r.kept.entries c) u m h
   memory_kept broken = kept_same m
 
-  next_safe : (c : Rec News) → record_of p ≡ c → Bounded r → Safe m (next_record c r m)
+  next_safe : (c : Rec News) → checked_record_of p ≡ c → Bounded r → Safe m (next_record c r m)
   next_safe c e b = record { bounded = record { active = b.active; kept = kept-bounded c e b; name = b.name; text = b.text; bytes = b.bytes; at = b.at }; kept = memory_kept c }
 
   broken_safe : Bounded r → Safe m (replay_by broken r m)
@@ -157,7 +158,7 @@ module _ (r : Registers) (m : List ℕ) (h : length m ≡ 262144) (p : Page) whe
     at = b.at;
   })
 
-  safe_by : (c : Rec News) → record_of p ≡ c → Bounded r → Safe m (replay_by c r m)
+  safe_by : (c : Rec News) → checked_record_of p ≡ c → Bounded r → Safe m (replay_by c r m)
   safe_by (head g n) e b = next_safe (head g n) e b
   safe_by (line j q) e b = next_safe (line j q) e b
   safe_by (copy i j q) e b = next_safe (copy i j q) e b
@@ -166,7 +167,7 @@ module _ (r : Registers) (m : List ℕ) (h : length m ≡ 262144) (p : Page) whe
 
   pub replay_safe : Bounded r → Safe m (replay_record p r m)
   unfolding replay_record
-  replay_safe b = safe_by (record_of p) refl b
+  replay_safe b = safe_by (checked_record_of p) refl b
 
   -- the store then
   abbrev then : Rec News → State Small
@@ -179,7 +180,7 @@ module _ (r : Registers) (m : List ℕ) (h : length m ≡ 262144) (p : Page) whe
   unfolding house_of
   here-fits c f = let u = f.tapes.used in record { tape = f.tapes.active; at = omega arith }
 
-  noted : (c : Rec News) → record_of p ≡ c → Bounded r → Fits (next_state c) → Noted r.kept (kept_with c r.kept) m (memory_with c r m) (then c)
+  noted : (c : Rec News) → checked_record_of p ≡ c → Bounded r → Fits (next_state c) → Noted r.kept (kept_with c r.kept) m (memory_with c r m) (then c)
   unfolding pending_of
   noted (head g n) e b f =
       let l = f.store.dir_few in
@@ -212,7 +213,7 @@ module _ (r : Registers) (m : List ℕ) (h : length m ≡ 262144) (p : Page) whe
       record { store = a.store; text = a.text; name = a.name }
   noted broken e b f = record { store = refl; text = λ n. refl; name = λ n. refl }
 
-  next_same : (c : Rec News) → record_of p ≡ c → Bounded r → Fits (next_state c) → Same (next_record c r m) (did (next_state c) (read r.tapes.active (suc r.tapes.used)))
+  next_same : (c : Rec News) → checked_record_of p ≡ c → Bounded r → Fits (next_state c) → Same (next_record c r m) (did (next_state c) (read r.tapes.active (suc r.tapes.used)))
   unfolding house_of
   next_same c e b f =
       let n = noted c e b f in
@@ -222,7 +223,7 @@ module _ (r : Registers) (m : List ℕ) (h : length m ≡ 262144) (p : Page) whe
   unfolding house_of pending_of
   broken_same f = begin_same (with_kept (with_pending 0 r.kept) r) m h no_limit true
 
-  same_by_record : (c : Rec News) → record_of p ≡ c → Bounded r → Fits (machine.replay_record c (house_of r m)).state → Same (replay_by c r m) (machine.replay_record c (house_of r m))
+  same_by_record : (c : Rec News) → checked_record_of p ≡ c → Bounded r → Fits (machine.replay_record c (house_of r m)).state → Same (replay_by c r m) (machine.replay_record c (house_of r m))
   unfolding house_of
   same_by_record (head g n) e b f = next_same (head g n) e b f
   same_by_record (line j q) e b f = next_same (line j q) e b f
@@ -230,9 +231,9 @@ module _ (r : Registers) (m : List ℕ) (h : length m ≡ 262144) (p : Page) whe
   same_by_record (commit c u) e b f = next_same (commit c u) e b f
   same_by_record broken e b f = broken_same f
 
-  pub replay_same : Bounded r → Fits (machine.replay_record (record_of p) (house_of r m)).state → Same (replay_record p r m) (machine.replay_record (record_of p) (house_of r m))
+  pub replay_same : Bounded r → Fits (machine.replay_record (checked_record_of p) (house_of r m)).state → Same (replay_record p r m) (machine.replay_record (checked_record_of p) (house_of r m))
   unfolding replay_record
-  replay_same b f = same_by_record (record_of p) refl b f
+  replay_same b f = same_by_record (checked_record_of p) refl b f
 
 -- NO TAPE COUNTS
 module _ (r : Registers) (m : List ℕ) where

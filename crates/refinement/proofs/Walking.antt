@@ -6,7 +6,7 @@ use Rattle.plain.specs.Device.{Page}
 use Rattle.plain.specs.Run.{read, shows}
 use Rattle.journal.specs.Log.{Piece, piece_in, State, state}
 use Rattle.journal.specs.Small.{Small, small}
-use Rattle.records.specs.Pages.{record_of}
+use Rattle.records.specs.Checked.{checked_record_of}
 use Rattle.records.proofs.Read.{piece-short, piece_bytes}
 use Rattle.commands.specs.Code.{walk_as, plan_as}
 use Rattle.commands.specs.declared.plan.Walk.{Walk}

@@ -10,8 +10,8 @@ returns-then-not-last c =
     let m = c.args.memory.now in
     let out = c.args.out.now in
     let v = c.numbers-numbers.result in
-    put_first r m out c.put-page.new.out c.target-tape.result c.lengthen-registers.result c.target-tape.ensures c.lengthen-registers.ensures
-    (page_put r m out c.put-page.new.out v c.news_of.result c.requires.1.1.bounded.name (c.numbers-numbers.ensures (name_of r.job.name m)) c.news_of.ensures c.put-page.ensures)
+    put_first r m out c.put_page.new.out c.target-tape.result c.lengthen-registers.result c.target-tape.ensures c.lengthen-registers.ensures
+    (page_put r m out c.put_page.new.out v c.news_of.result c.requires.1.1.bounded.name (c.numbers-numbers.ensures (name_of r.job.name m)) c.news_of.ensures c.put_page.ensures)
     c.if-not-last.ensures
 
 pub returns : goal.returns
@@ -21,8 +21,8 @@ returns c =
     let out = c.args.out.now in
     let v = c.numbers-numbers.result in
     let name = name_of r.job.name m in
-    put_last r m out c.put-page.new.out c.target-tape.result c.lengthen-registers.result c.target-tape.ensures c.lengthen-registers.ensures
-    (page_put r m out c.put-page.new.out v c.news_of.result c.requires.1.1.bounded.name (c.numbers-numbers.ensures name) c.news_of.ensures c.put-page.ensures)
-    c.if-not-last.ensures c.cursor-then-cursor.result c.apply-registers.result c.apply-registers.new.memory (news_of v name) c.cursor-then-cursor.ensures
-    (news-said r m out c.put-page.new.out v c.news_of.result c.requires.1.1.bounded.name (c.numbers-numbers.ensures name) c.news_of.ensures)
+    put_last r m out c.put_page.new.out c.target-tape.result c.lengthen-registers.result c.target-tape.ensures c.lengthen-registers.ensures
+    (page_put r m out c.put_page.new.out v c.news_of.result c.requires.1.1.bounded.name (c.numbers-numbers.ensures name) c.news_of.ensures c.put_page.ensures)
+    c.if-not-last.ensures c.cursor_then-cursor.result c.apply-registers.result c.apply-registers.new.memory (news_of v name) c.cursor_then-cursor.ensures
+    (news-said r m out c.put_page.new.out v c.news_of.result c.requires.1.1.bounded.name (c.numbers-numbers.ensures name) c.news_of.ensures)
     c.apply-registers.ensures.kept c.apply-registers.ensures.memory

@@ -7,16 +7,16 @@ use Rattle.records.specs.Pages.{page_of}
 use Rattle.records.specs.Values.{low_bytes, news_of}
 use Rattle.commits.proofs.commit.put_page.Goals as goal
 
-pub encode-commit-requires : goal.encode-commit-requires
-encode-commit-requires c =
+pub encode_commit-requires : goal.encode_commit-requires
+encode_commit-requires c =
     let n = c.args.registers.now.job.name in
     let few : n ≤ 64 = c.requires.1.1.bounded.name in
-    let l : length c.kept-name-name.result.now ≡ min n (length (name_in c.args.memory.now)) = ap length c.kept-name-name.ensures ∙ length-take n (name_in c.args.memory.now) in
+    let l : length c.kept_name-name.result.now ≡ min n (length (name_in c.args.memory.now)) = ap length c.kept_name-name.ensures ∙ length-take n (name_in c.args.memory.now) in
     (omega arith, omega arith)
 
 pub returns : goal.returns
 unfolding name_of
 returns c =
     let out = c.args.out.now in
-    c.encode-commit.ensures
-    ∙ (λ i. page_of (commit (c.splice-splice.ensures i) (news_of c.args.numbers (low_bytes (c.kept-name-name.ensures i)))) ++ drop 512 out)
+    c.encode_commit.ensures
+    ∙ (λ i. page_of (commit (c.splice-splice.ensures i) (news_of c.args.numbers (low_bytes (c.kept_name-name.ensures i)))) ++ drop 512 out)

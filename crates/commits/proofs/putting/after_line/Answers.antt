@@ -15,7 +15,7 @@ unfolding after_line
 returns c =
     let r = c.args.registers.now in
     let m = c.args.memory.now in
-    says_yes r.putting.more (put_next (with_putting (put_further r m) r) m) (put_commit r m) c.put-next.new.registers c.put-next.new.memory c.put-next.result c.args.out.now
-    c.put-next.new.out c.if-not-registers.false
-    (subst (λ (p : Putting). Says (put_next (with_putting p r) m) c.put-next.new.registers c.put-next.new.memory c.put-next.result c.args.out.now c.put-next.new.out)
-    c.put-further-registers.ensures.next c.put-next.ensures)
+    says_yes r.putting.more (put_next (with_putting (put_further r m) r) m) (put_commit r m) c.put_next.new.registers c.put_next.new.memory c.put_next.result c.args.out.now
+    c.put_next.new.out c.if-not-registers.false
+    (subst (λ (p : Putting). Says (put_next (with_putting p r) m) c.put_next.new.registers c.put_next.new.memory c.put_next.result c.args.out.now c.put_next.new.out)
+    c.put_further-registers.ensures.next c.put_next.ensures)

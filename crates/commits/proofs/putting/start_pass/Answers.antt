@@ -8,5 +8,5 @@ pub returns : goal.returns
 unfolding start_pass
 returns c =
     let r = c.args.registers.now in
-    subst (λ (more : Bool). Says (put_next (with_putting (putting c.args.second more 0 0) (with_kept (with_pending 0 r.kept) r)) c.args.memory.now) c.put-next.new.registers
-    c.put-next.new.memory c.put-next.result c.args.out.now c.put-next.new.out) c.some.ensures c.put-next.ensures
+    subst (λ (more : Bool). Says (put_next (with_putting (putting c.args.second more 0 0) (with_kept (with_pending 0 r.kept) r)) c.args.memory.now) c.put_next.new.registers
+    c.put_next.new.memory c.put_next.result c.args.out.now c.put_next.new.out) c.some.ensures c.put_next.ensures

@@ -5,4 +5,4 @@ use Rattle.commits.proofs.rows.put_number.Goals as goal
 
 pub returns : goal.returns
 unfolding in_bytes
-returns c = c.copy-from-slice.ensures.after ∙ (c.to-be-bytes.ensures ∙ simp div-div-eq-div-mul)
+returns c = c.copy_from_slice.ensures.after ∙ (c.to_be_bytes.ensures ∙ simp div-div-eq-div-mul)

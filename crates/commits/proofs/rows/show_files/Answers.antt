@@ -13,7 +13,7 @@ use Rattle.commits.proofs.rows.show_files.Goals as goal
 pub returns-then-i-registers : goal.returns-then-i-registers
 unfolding show_files
 returns-then-i-registers c =
-    simp (le-ltb c.args.i c.args.registers.now.kept.files c.if-i-registers.true) (c.end-done.ensures c.args.memory.now c.args.out.now)
+    simp (le-ltb c.args.i c.args.registers.now.kept.files c.if-i-registers.true) (c.end_done.ensures c.args.memory.now c.args.out.now)
 
 pub returns : goal.returns
 unfolding show_files ActTold
@@ -24,7 +24,7 @@ returns c =
       registers = refl;
       memory = refl;
       act = (
-        ap Shows c.put-file-row-long.ensures.long,
-        c.put-file-row-long.ensures.row ∙ ap (λ n. file_row (file_at (part (67 * c.args.i) 67 s)) ++ drop n c.args.out.now) c.put-file-row-long.ensures.long,
+        ap Shows c.put_file_row-long.ensures.long,
+        c.put_file_row-long.ensures.row ∙ ap (λ n. file_row (file_at (part (67 * c.args.i) 67 s)) ++ drop n c.args.out.now) c.put_file_row-long.ensures.long,
       );
     }

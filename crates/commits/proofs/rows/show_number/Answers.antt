@@ -5,4 +5,4 @@ use Rattle.commits.proofs.rows.show_number.Goals as goal
 
 pub returns : goal.returns
 unfolding ActTold in_bytes
-returns c = λ m. record { registers = refl; memory = refl; act = (refl, ap (λ t. t ++ drop 8 c.args.out.now) c.put-number.ensures) }
+returns c = λ m. record { registers = refl; memory = refl; act = (refl, ap (λ t. t ++ drop 8 c.args.out.now) c.put_number.ensures) }
