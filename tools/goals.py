@@ -78,7 +78,8 @@ def main():
                 def source(m):
                     w = m.group(0)
                     if w in known or w in own: return w
-                    c = own_norm.get(norm(w))
+                    field = m.start() > 0 and m.string[m.start() - 1] == "."
+                    c = None if field else own_norm.get(norm(w))
                     if c and len(c) == 1 and norm(w) not in table: return next(iter(c))
                     if "-" not in w: return w
                     for a, b in dashed:

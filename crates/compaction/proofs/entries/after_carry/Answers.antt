@@ -9,32 +9,32 @@ use Rattle.compaction.specs.Carry.{after_carry, carry}
 use Rattle.compaction.proofs.Placed.{Near, entry_near}
 use Rattle.compaction.proofs.entries.after_carry.Goals as goal
 
-pub overflow-add-result : goal.overflow-add-result
-overflow-add-result c =
-    let n : Near c.entry_position.result = subst Near (sym c.entry_position.ensures) (entry_near _ _ _) in
+pub overflow_add-result : goal.overflow_add-result
+overflow_add-result c =
+    let n : Near c.entry-position.result = subst Near (sym c.entry-position.ensures) (entry_near _ _ _) in
     let t = c.requires.1.1.carrying.part in
     omega (arith, n.at, t)
 
-pub overflow-mul-result : goal.overflow-mul-result
-overflow-mul-result c =
-    let n : Near c.entry_position.result = subst Near (sym c.entry_position.ensures) (entry_near _ _ _) in
+pub overflow_mul-result : goal.overflow_mul-result
+overflow_mul-result c =
+    let n : Near c.entry-position.result = subst Near (sym c.entry-position.ensures) (entry_near _ _ _) in
     let t = c.requires.1.1.carrying.part in
     omega (arith, n.at, t)
 
-pub overflow-add-result-then-part-records-of : goal.overflow-add-result-then-part-records-of
-overflow-add-result-then-part-records-of c =
-    let n : Near c.entry_position.result = subst Near (sym c.entry_position.ensures) (entry_near _ _ _) in
+pub overflow_add-result-then-part-records_of : goal.overflow_add-result-then-part-records_of
+overflow_add-result-then-part-records_of c =
+    let n : Near c.entry-position.result = subst Near (sym c.entry-position.ensures) (entry_near _ _ _) in
     let t = c.requires.1.1.carrying.part in
     omega (arith, n.at, n.tape, t)
 
-pub returns-then-part-records-of : goal.returns-then-part-records-of
+pub returns-then-part-records_of : goal.returns-then-part-records_of
 unfolding after_carry ActTold
-returns-then-part-records-of c =
+returns-then-part-records_of c =
     let r = c.args.registers.now in
     let part = add-one r.carrying.part in
-    let at = c.entry_position.ensures in
+    let at = c.entry-position.ensures in
     let few = records_of r.carrying.long in
-    simp (lt-ltb _ _ (subst (λ n. n < few) part (subst (λ n. r.carrying.part + 1 < n) c.records_of.ensures c.if-part-records-of.true))) record {
+    simp (lt-ltb _ _ (subst (λ n. n < few) part (subst (λ n. r.carrying.part + 1 < n) c.records_of.ensures c.if-part-records_of.true))) record {
       registers = λ i. in_phase CarryRead (with_carrying (carrying r.carrying.index (part i) r.carrying.long r.carrying.start r.carrying.quota r.carrying.waking) r);
       memory = refl;
       act = (λ i. Read (2 * ((at i).at + part i) + (at i).tape), refl);
@@ -45,10 +45,10 @@ unfolding after_carry
 returns c =
     let r = c.args.registers.now in
     let few = records_of r.carrying.long in
-    let quota = c.saturating-sub-registers.ensures in
+    let quota = c.saturating_sub-registers.ensures in
     let cursor = add-one r.carrying.index in
-    let memory = c.set-entry.ensures in
-    simp (le-ltb _ _ (subst (λ n. few ≤ n) (add-one r.carrying.part) (subst (λ n. n ≤ r.carrying.part + 1) c.records_of.ensures c.if-part-records-of.false)))
+    let memory = c.set_entry.ensures in
+    simp (le-ltb _ _ (subst (λ n. few ≤ n) (add-one r.carrying.part) (subst (λ n. n ≤ r.carrying.part + 1) c.records_of.ensures c.if-part-records_of.false)))
     (subst (λ d. Says d c.carry.new.registers c.carry.new.memory c.carry.result c.args.out.now c.carry.new.out)
     (λ i. carry (with_carrying (carrying r.carrying.index 0 0 r.carrying.start (quota i) r.carrying.waking) (with_tapes (with_cursor (cursor i) r.tapes) r)) (memory i))
     c.carry.ensures)

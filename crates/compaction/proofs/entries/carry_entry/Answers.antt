@@ -9,14 +9,14 @@ pub returns-then-i-registers : goal.returns-then-i-registers
 unfolding carry_entry ActTold
 returns-then-i-registers c = λ out. simp (le-ltb c.args.i c.args.registers.now.kept.entries c.if-i-registers.true) record { registers = refl; memory = refl; act = (refl, refl) }
 
-pub overflow-mul-result : goal.overflow-mul-result
-overflow-mul-result c =
-    let n : Near c.entry_position.result = subst Near (sym c.entry_position.ensures) (entry_near _ _ _) in
+pub overflow_mul-result : goal.overflow_mul-result
+overflow_mul-result c =
+    let n : Near c.entry-position.result = subst Near (sym c.entry-position.ensures) (entry_near _ _ _) in
     omega (arith, n.at)
 
-pub overflow-add-result : goal.overflow-add-result
-overflow-add-result c =
-    let n : Near c.entry_position.result = subst Near (sym c.entry_position.ensures) (entry_near _ _ _) in
+pub overflow_add-result : goal.overflow_add-result
+overflow_add-result c =
+    let n : Near c.entry-position.result = subst Near (sym c.entry-position.ensures) (entry_near _ _ _) in
     omega (arith, n.at, n.tape)
 
 pub returns : goal.returns
@@ -25,5 +25,5 @@ returns c =
     λ out. simp (lt-ltb c.args.i c.args.registers.now.kept.entries c.if-i-registers.false) record {
       registers = refl;
       memory = refl;
-      act = (ap read_of c.entry_position.ensures, refl);
+      act = (ap read_of c.entry-position.ensures, refl);
     }

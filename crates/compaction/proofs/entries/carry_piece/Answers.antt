@@ -10,11 +10,11 @@ pub returns : goal.returns
 unfolding carry_piece ActTold
 returns c =
     let r = c.args.registers.now in
-    let long = c.copy-line-long.ensures.long in
+    let long = c.copy_line-long.ensures.long in
     let other = add-one r.tapes.other in
     λ m. record {
       registers = λ i. in_phase CarryPut (with_carrying (carrying r.carrying.index r.carrying.part (long i) r.carrying.start r.carrying.quota r.carrying.waking)
           (with_tapes (with_other (other i) r.tapes) r));
       memory = refl;
-      act = (refl, copy-laid _ _ c.args.read.now c.args.out.now c.copy-line-long.new.out c.copy-line-long.ensures.laid);
+      act = (refl, copy-laid _ _ c.args.read.now c.args.out.now c.copy_line-long.new.out c.copy_line-long.ensures.laid);
     }

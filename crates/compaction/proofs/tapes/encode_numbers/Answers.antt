@@ -5,5 +5,5 @@ use Rattle.compaction.proofs.tapes.encode_numbers.Goals as goal
 
 pub returns : goal.returns
 returns c =
-    commit-laid no_splice (news_of c.args.numbers (low_bytes c.args.name.now)) c.args.out.now c.encode-commit.new.out
-    (name_few c.args.numbers c.args.name.now c.requires.1) c.encode-commit.ensures
+    commit-laid no_splice (news_of c.args.numbers (low_bytes c.args.name.now)) c.args.out.now c.encode_commit.new.out
+    (name_few c.args.numbers c.args.name.now c.requires.1) c.encode_commit.ensures

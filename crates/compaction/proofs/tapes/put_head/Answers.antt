@@ -11,6 +11,6 @@ unfolding put_head
 returns c =
     let r = c.args.registers.now in
     let out = c.args.out.now in
-    let e = head-laid (next_generation r.tapes.generation) c.generation-after-generation.result r.kept.entries out c.encode-head.new.out c.generation-after-generation.ensures c.encode-head.ensures in
-    λ m. subst (λ o. Says (put_head r m) c.put-other.new.registers m c.put-other.result out o) (sym e)
-    (c.put-other.ensures m (page_of (head (next_generation r.tapes.generation) r.kept.entries)) out)
+    let e = head-laid (next_generation r.tapes.generation) c.generation_after-generation.result r.kept.entries out c.encode_head.new.out c.generation_after-generation.ensures c.encode_head.ensures in
+    λ m. subst (λ o. Says (put_head r m) c.put_other.new.registers m c.put_other.result out o) (sym e)
+    (c.put_other.ensures m (page_of (head (next_generation r.tapes.generation) r.kept.entries)) out)

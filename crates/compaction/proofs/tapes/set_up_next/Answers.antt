@@ -22,5 +22,5 @@ returns c =
     let p = set_up_page r m in
     let h : r.carrying.index < suc (r.kept.ring + r.kept.files) = omega (arith, c.if-index-registers.false) in
     simp (lt-ltb r.carrying.index (suc (r.kept.ring + r.kept.files)) h)
-    (subst (λ o. Says (put_other p (with_carrying (with_index (suc r.carrying.index) r.carrying) r) m) c.put-other.new.registers m c.put-other.result out o) (sym c.set_up_record.ensures)
-    (subst (λ n. Says (put_other p (with_carrying (with_index n r.carrying) r) m) c.put-other.new.registers m c.put-other.result out (laid p out)) (add-one r.carrying.index) (c.put-other.ensures m p out)))
+    (subst (λ o. Says (put_other p (with_carrying (with_index (suc r.carrying.index) r.carrying) r) m) c.put_other.new.registers m c.put_other.result out o) (sym c.set_up_record.ensures)
+    (subst (λ n. Says (put_other p (with_carrying (with_index n r.carrying) r) m) c.put_other.new.registers m c.put_other.result out (laid p out)) (add-one r.carrying.index) (c.put_other.ensures m p out)))
