@@ -1,22 +1,21 @@
 -- The turn of what is kept is the plain house's turn: commands on the text. Assumes nothing.
-use Rattle.std.proofs.Common.{◌≡◌, ℕ, zero, suc, ◌+◌, ◌-◌, ◌*◌, ◌<◌, ◌≤◌, Bool, true, false, not, ◌&&◌, eqb, ltb, leb, ◌⊎◌, List, [], ◌∷◌, ◌++◌, length, take, drop, sym, refl, ap, ◌∙◌, subst, inl, inr, arith}
-use Rattle.std.proofs.lemmas.List.{append-nil, append_assoc, length-append, length-take, length-drop}
-use Rattle.std.proofs.lemmas.Bool.{true≢false, false≢true, and_parts, and_from, leb-true, ltb-false, le-leb, eqb-true, ne_eqb}
-use Rattle.plain.specs.Pattern.{pick, or, every, any, each, flat, added_up, none_of, all_bytes, eight}
+use Rattle.std.proofs.Common.{◌≡◌, ℕ, suc, ◌+◌, ◌-◌, ◌≤◌, Bool, true, false, ◌&&◌, eqb, ltb, leb, List, [], ◌∷◌, ◌++◌, length, take, drop, sym, refl, ap, ◌∙◌, subst, arith}
+use Rattle.std.proofs.lemmas.List.{append-nil}
+use Rattle.std.proofs.lemmas.Bool.{true≢false, false≢true, and_parts, and_from, leb-true, ltb-false, le-leb, ne_eqb}
+use Rattle.plain.specs.Pattern.{pick, every, none_of, all_bytes, eight}
 use Rattle.plain.specs.Command.{Deed, append, insert, change, delete, join, print, number, where_is, go_to}
-use Rattle.plain.specs.House.{Line, Stand, Plain, Turn, Both, both_of, Work, how_many, put_lines, new_lines, with_text, at_line, lines_from, printed, glued, smaller, after_gone, real, failed, worked, short_all, start_work, deed_work, finished, no}
-use Rattle.plain.proofs.Basics.{In, every_in, every_by, length_each}
-use Rattle.plain.proofs.Goods.{at-insert, at_gone, at-change, Real, real_from}
-use Rattle.plain.proofs.Fair.{length-lines}
-use Rattle.commands.specs.Kept.{Kept, kept, fit_line, fit_lines}
-use Rattle.commands.specs.Resolve.{Checked, good, refused, then, check, Bounds, bounds, there}
+use Rattle.plain.specs.House.{Line, Plain, both_of, Work, how_many, put_lines, new_lines, lines_from, printed, glued, smaller, after_gone, real, short_all, start_work, deed_work, finished, no}
+use Rattle.plain.proofs.Basics.{every_in, every_by}
+use Rattle.plain.proofs.Goods.{at-insert, at_gone, at-change, real_from}
+use Rattle.commands.specs.Kept.{Kept, fit_line, fit_lines}
+use Rattle.commands.specs.Resolve.{Checked, good, Bounds, there}
 use Rattle.commands.specs.Plan as plan
 use Rattle.commands.specs.Plan.{Plan, Slot, decide_deed, Sizes, Given}
 use Rattle.commands.specs.Turn as turn
 use Rattle.commands.specs.Turn.{KeptTurn, kept_no, lines_given, name_given, given_of, sizes_of, walked, glued_lines, numbered, walk_rows, more_rows, too_long, updated_by, kept_does}
 use Rattle.commands.specs.Held.{bytes_of, Held, SameTurn}
 use Rattle.commands.proofs.Lists.{each_take, each_drop, flat_each, every_take, every_drop, every_flat}
-use Rattle.commands.proofs.Texts.{Replaced, text-held, Quiet, quiet_held, same_files, count_same, FilesSound}
+use Rattle.commands.proofs.Texts.{text-held, quiet_held, same_files, count_same}
 
 pub pick_alike : {A B : Type 0} (P : A → B → Type 0) (t u : Bool) (x y : A) (z v : B) → t ≡ u → (t ≡ true → P x z) → (t ≡ false → P y v) → P (pick t x y) (pick u z v)
 pick_alike P true true x y z v e p q = p refl

@@ -1,7 +1,6 @@
 -- Copies of entries of the directory: those of lines of the text, and those of a file. Assumes nothing.
-use Rattle.std.proofs.Common.{◌≡◌, ℕ, zero, suc, ◌+◌, ◌-◌, ◌*◌, ◌<◌, ◌≤◌, Bool, true, false, not, ◌&&◌, List, [], ◌∷◌, ◌++◌, length, take, drop, sym, refl, ap, ◌∙◌, subst, arith}
-use Rattle.std.proofs.lemmas.List.{append-nil, append_assoc, length-append, take_at, drop_at}
-use Rattle.plain.specs.Pattern.{pick, every, each, flat, added_up}
+use Rattle.std.proofs.Common.{◌≡◌, ℕ, ◌+◌, ◌-◌, List, ◌∷◌, ◌++◌, length, take, drop, sym, refl, ap, ◌∙◌, arith}
+use Rattle.std.proofs.lemmas.List.{append_assoc, take_at, drop_at}
 use Rattle.plain.specs.House.{File}
 use Rattle.commands.specs.Kept.{Kept, file_lines, directory, offset}
 use Rattle.commands.proofs.Lists.{flat_append, length-flat, take_past, drop_past}

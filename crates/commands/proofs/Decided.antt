@@ -1,6 +1,6 @@
 -- The decision, step by step as the code makes it. Assumes nothing.
-use Rattle.std.proofs.Common.{◌≡◌, ℕ, suc, ◌≤◌, Bool, true, false, ◌&&◌, List, [], Ok, Err, Result, sym, refl, ap, ◌∙◌, subst, Bor}
-use Rattle.std.proofs.lemmas.Bool.{true≢false, false≢true, and_parts}
+use Rattle.std.proofs.Common.{◌≡◌, ℕ, Bool, true, false, List, Ok, Err, Result, sym, refl, ap, ◌∙◌, subst, Bor}
+use Rattle.std.proofs.lemmas.Bool.{false≢true, and_parts}
 use Rattle.plain.specs.Command.{Simple}
 use Rattle.plain.specs.House.{plain_range, core_deed}
 use Rattle.typed.specs.declared.deeds.Deed.{Deed}
@@ -9,8 +9,8 @@ use Rattle.typed.specs.declared.commands.Simple as typed_simple
 use Rattle.typed.specs.Meaning.{deed_of, simple_of}
 use Rattle.commands.specs.declared.refusal.Refusal.{Refusal}
 use Rattle.commands.specs.declared.bounds.Bounds as code_bounds
-use Rattle.commands.specs.Resolve.{Checked, good, refused, then, check, Bounds, command_bounds}
-use Rattle.commands.specs.Plan.{Sizes, Slot, Given, Plan, known, decide, decide_deed, decide_lines, decide_save, decide_edit, say_plan, all_files}
+use Rattle.commands.specs.Resolve.{Checked, good, refused, then, Bounds, command_bounds}
+use Rattle.commands.specs.Plan.{Sizes, Slot, Given, known, decide, decide_deed, decide_lines, decide_save, decide_edit, say_plan, all_files}
 use Rattle.commands.specs.Code.{checked_by, bounds_as, RangeOrdered}
 use Rattle.commands.proofs.Resolved.{Ordered, bounds-ordered}
 

@@ -1,16 +1,15 @@
 -- The turn of what is kept is the plain house's turn: commands on files. Assumes nothing.
-use Rattle.std.proofs.Common.{◌≡◌, ℕ, zero, suc, ◌+◌, ◌-◌, ◌*◌, ◌<◌, ◌≤◌, Bool, true, false, not, ◌&&◌, eqb, ltb, leb, ◌⊎◌, List, [], ◌∷◌, ◌++◌, length, take, drop, sym, refl, ap, ◌∙◌, subst, inl, inr, arith}
-use Rattle.std.proofs.lemmas.List.{append-nil, append_assoc, length-append, length-take, length-drop, drop_all, nil_from_length}
-use Rattle.std.proofs.lemmas.Bool.{true≢false, false≢true, and_parts, and_from, leb-true, ltb-true, le-leb, eqb-true, cases_Bool}
-use Rattle.plain.specs.Pattern.{pick, or, every, any, each, those, none_of, all_bytes, eight, same}
+use Rattle.std.proofs.Common.{◌≡◌, ℕ, zero, suc, ◌+◌, ◌-◌, ◌<◌, ◌≤◌, Bool, true, false, not, ◌&&◌, eqb, ltb, ◌⊎◌, List, [], ◌∷◌, ◌++◌, length, take, drop, sym, refl, ap, ◌∙◌, subst, inl, inr, arith}
+use Rattle.std.proofs.lemmas.List.{append-nil, length-append, drop_all, nil_from_length}
+use Rattle.std.proofs.lemmas.Bool.{and_parts, and_from, ltb-true, eqb-true}
+use Rattle.plain.specs.Pattern.{pick, or, every, any, each, those, none_of, eight, same}
 use Rattle.plain.specs.Command.{Deed, save, edit, files}
-use Rattle.plain.specs.House.{Line, Stand, Plain, Turn, File, Both, both_of, both_lost, Work, how_many, new_lines, lines_from, real, can_write, with_file, put_file, put_lines, file_of, file_work, edited, failed, start_work, finished, no, file_row}
-use Rattle.plain.proofs.Basics.{In, every_in, every_by, length_each}
-use Rattle.plain.proofs.Goods.{Real, real_from}
+use Rattle.plain.specs.House.{Plain, Turn, File, both_of, how_many, new_lines, lines_from, real, can_write, with_file, put_file, file_of, file_work, edited, start_work, finished, no, file_row}
+use Rattle.plain.proofs.Goods.{real_from}
 use Rattle.plain.proofs.Fair.{length-lines}
 use Rattle.journal.specs.Small.{pushed}
 use Rattle.commands.specs.Kept.{Kept, kept, fit_line, fit_lines, fit_name, fit_file, other_names, lines_size, stand_size, directory, offset}
-use Rattle.commands.specs.Resolve.{Checked, good, refused, then, check, Bounds, bounds, there}
+use Rattle.commands.specs.Resolve.{Checked, good, refused, then, check, Bounds}
 use Rattle.commands.specs.Plan as plan
 use Rattle.commands.specs.Plan.{Plan, Slot, slot_of, look_up, table, decide_deed, writable}
 use Rattle.commands.specs.Turn as turn
@@ -20,8 +19,8 @@ use Rattle.commands.proofs.Lists.{every_take, every_drop, every_both, every_part
 use Rattle.commands.proofs.Files.{file, There, Missing, looked, at_place, at_end, same_true, names_place, names_more}
 use Rattle.commands.proofs.Brought.{again-text, again_file}
 use Rattle.commands.proofs.Resolved.{both_from, Worded, Ordered}
-use Rattle.commands.proofs.Texts.{Replaced, text-held, Quiet, quiet_held, same_files, count_same, FilesSound}
-use Rattle.commands.proofs.Alike.{pick_alike, no_alike, there_same, lines_same, part_bytes}
+use Rattle.commands.proofs.Texts.{Replaced, text-held, quiet_held, same_files, count_same, FilesSound}
+use Rattle.commands.proofs.Alike.{pick_alike, no_alike, there_same, lines_same}
 
 pub or_parts : (x y : Bool) → or x y ≡ true → (x ≡ true) ⊎ (y ≡ true)
 or_parts true y e = inl refl

@@ -1,14 +1,11 @@
 -- Looking a file up in the table: what it tells of the files, of putting one there, and of where its lines are. Assumes nothing.
-use Rattle.std.proofs.Common.{◌≡◌, ℕ, zero, suc, ◌+◌, ◌-◌, ◌*◌, ◌<◌, ◌≤◌, Bool, true, false, not, ◌&&◌, eqb, ltb, leb, ◌⊎◌, List, [], ◌∷◌, ◌++◌, length, take, drop, sym, refl, ap, ◌∙◌, subst, inl, inr, arith}
-use Rattle.std.proofs.lemmas.List.{append-nil, append_assoc, length-append, take_at, drop_at}
-use Rattle.std.proofs.lemmas.Bool.{and_parts, and_from, not-true, not_from_false, eqb-true, eq-eqb, cases_Bool}
-use Rattle.plain.specs.Pattern.{pick, or, every, any, each, those, added_up, none_of, same}
+use Rattle.std.proofs.Common.{◌≡◌, ℕ, suc, ◌+◌, Bool, true, false, not, ◌&&◌, eqb, ◌⊎◌, List, [], ◌∷◌, ◌++◌, length, sym, refl, ap, ◌∙◌, subst, inl, inr, arith}
+use Rattle.std.proofs.lemmas.Bool.{and_parts, and_from, not-true, eqb-true, cases_Bool}
+use Rattle.plain.specs.Pattern.{or, any, those, same}
 use Rattle.plain.specs.House.{File, put_file}
-use Rattle.plain.proofs.Basics.{In, in_left, in_right, in_cases, any_in, any_from, any_none, every_in, every_by, every_append, added_append}
-use Rattle.commands.specs.Kept.{lines_size, offset, fit_name, fit_lines, fit_file, other_names}
-use Rattle.commands.specs.Plan.{entry_of, table, Slot, slot_of, look_up}
+use Rattle.commands.specs.Kept.{lines_size, offset, other_names}
+use Rattle.commands.specs.Plan.{table, Slot, slot_of, look_up}
 use Rattle.commands.specs.Turn.{with_file_at}
-use Rattle.commands.proofs.Lists.{every_both, every_parts}
 
 abbrev pub file : List ℕ → List (List ℕ) → File
 file n ls = record { name = n; lines = ls }

@@ -1,15 +1,15 @@
 -- What is done, or refused for want of room, is allowed beside the plain house. Assumes nothing.
-use Rattle.std.proofs.Common.{◌≡◌, ℕ, zero, suc, ◌+◌, ◌-◌, ◌*◌, ◌<◌, ◌≤◌, Bool, true, false, not, ◌&&◌, eqb, ltb, leb, ◌⊎◌, List, [], ◌∷◌, ◌++◌, length, sym, refl, ap, ◌∙◌, subst, inl, inr, arith}
-use Rattle.std.proofs.lemmas.Bool.{true≢false, false≢true, and_parts, and_cases, ltb-true, ltb-false, cases_lt}
+use Rattle.std.proofs.Common.{◌≡◌, ℕ, suc, ◌+◌, ◌-◌, ◌*◌, ◌<◌, ◌≤◌, Bool, true, false, not, ◌&&◌, ltb, leb, List, length, sym, refl, ap, ◌∙◌, inl, inr, arith}
+use Rattle.std.proofs.lemmas.Bool.{and_parts, and_cases, ltb-true, ltb-false, cases_lt}
 use Rattle.plain.specs.Pattern.{pick}
-use Rattle.plain.specs.Command.{Deed, append, insert, change, delete, join, move, copy, mark, print, number, where_is, swap, go_to, undo, redo, save, edit, load, files, bad, Simple, Command, plain, all_lines}
-use Rattle.plain.specs.House.{Plain, Turn, turn, Both, where_of, weight, core, core_deed, plain_range, given_lines}
-use Rattle.plain.specs.Promise.{AllOrNone, TurnMay, may_use, span, goes_through, first_plain, distinct}
+use Rattle.plain.specs.Command.{Deed, append, insert, change, delete, join, move, copy, mark, print, number, where_is, swap, go_to, undo, redo, save, edit, load, files, bad, Command, plain, all_lines}
+use Rattle.plain.specs.House.{Plain, Turn, turn, weight, core, core_deed, plain_range, given_lines}
+use Rattle.plain.specs.Promise.{AllOrNone, TurnMay, may_use, span, goes_through, distinct}
 use Rattle.plain.proofs.Turns.{all_or_none}
-use Rattle.commands.specs.Kept.{Kept, kept_weight, nothing_kept, other_names}
+use Rattle.commands.specs.Kept.{Kept, kept_weight, other_names}
 use Rattle.commands.specs.Resolve.{Checked, good, refused, Bounds, command_bounds}
-use Rattle.commands.specs.Turn.{KeptTurn, kept_no, kept_turn, lines_given, no_room, within_room, room_turn}
-use Rattle.commands.specs.Held.{Held, stand_weights, SameTurn, well_read, WeighsAlike, TurnsAlike, BeginsAlike, span_of, grant, may_spend, Allowed, TurnsAllowed}
+use Rattle.commands.specs.Turn.{kept_no, kept_turn, lines_given, no_room}
+use Rattle.commands.specs.Held.{Held, stand_weights, SameTurn, WeighsAlike, TurnsAlike, BeginsAlike, span_of, may_spend, Allowed, TurnsAllowed}
 use Rattle.commands.proofs.Resolved.{both_from}
 use Rattle.commands.proofs.Texts.{weighs_alike}
 use Rattle.commands.proofs.Turned.{where_kept, turns_alike}

@@ -1,11 +1,9 @@
 -- What is handed on from one check to the next: the value, or the number. Assumes nothing.
-use Rattle.std.proofs.Common.{◌≡◌, ℕ, zero, suc, ◌+◌, ◌-◌, Bool, true, false, ◌&&◌, eqb, ltb, leb, sym, refl, ap, ◌∙◌}
-use Rattle.plain.specs.Pattern.{pick}
-use Rattle.plain.specs.Command.{Address, Range}
+use Rattle.std.proofs.Common.{◌≡◌, ℕ, ap, ◌∙◌}
 use Rattle.typed.specs.declared.addresses.Range as typed_range
 use Rattle.typed.specs.declared.addresses.Reach.TheVariants.{One, Two, FromFirst}
 use Rattle.typed.specs.Meaning.{address_of, range_of}
-use Rattle.commands.specs.Resolve.{Checked, good, refused, then, check, Bounds, bounds, resolve_plain, in_order, resolve_range}
+use Rattle.commands.specs.Resolve.{Checked, good, refused, then, Bounds, bounds, resolve_plain, in_order, resolve_range}
 
 pub then_lost : {A B : Type 0} (c : Checked A) (f : A → Checked B) (k : ℕ) → refused k ≡ c → refused k ≡ then c f
 then_lost c f k e = ap (λ x. then x f) e

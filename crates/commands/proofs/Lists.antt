@@ -1,10 +1,10 @@
 -- Laws of lists: parts of what is made of each, of what is joined, of what is turned round. Assumes nothing.
-use Rattle.std.proofs.Common.{◌≡◌, ℕ, zero, suc, ◌+◌, ◌-◌, ◌*◌, ◌<◌, ◌≤◌, Bool, true, false, not, ◌&&◌, eqb, ltb, leb, ◌⊎◌, List, [], ◌∷◌, ◌++◌, reverse, length, take, drop, sym, refl, ap, ◌∙◌, subst, inl, inr, arith}
+use Rattle.std.proofs.Common.{◌≡◌, ℕ, zero, suc, ◌+◌, ◌≤◌, Bool, true, List, [], ◌∷◌, ◌++◌, reverse, length, take, drop, sym, refl, ap, ◌∙◌, inl, inr, arith}
 use mathlib.Core.List.{reverse-cons}
-use Rattle.std.proofs.lemmas.List.{append-nil, append_assoc, length-append, length-take, length-drop, length-reverse, take-append-drop, take_at, drop_at, drop-drop, drop-append-le, reverse-append}
+use Rattle.std.proofs.lemmas.List.{append_assoc, length-append, length-reverse, drop-append-le}
 use Rattle.std.proofs.lemmas.Bool.{and_parts, and_from}
-use Rattle.plain.specs.Pattern.{pick, every, any, each, flat, added_up}
-use Rattle.plain.proofs.Basics.{In, in_left, in_right, every_in, every_by, every_append, added_append}
+use Rattle.plain.specs.Pattern.{every, each, flat, added_up}
+use Rattle.plain.proofs.Basics.{In, every_append, added_append}
 
 -- each, of parts
 pub each_take : {A B : Type 0} (f : A → B) (n : ℕ) (xs : List A) → each f (take n xs) ≡ take n (each f xs)

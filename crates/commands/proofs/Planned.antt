@@ -1,21 +1,20 @@
 -- A plan's splice and small numbers are what becomes of the directory and of the small numbers. Assumes nothing.
-use Rattle.std.proofs.Common.{◌≡◌, ℕ, zero, suc, ◌+◌, ◌-◌, ◌*◌, ◌<◌, ◌≤◌, Bool, true, false, not, ◌&&◌, eqb, ltb, leb, ◌⊎◌, List, [], ◌∷◌, ◌++◌, length, take, drop, sym, refl, ap, ◌∙◌, subst, inl, inr, arith}
+use Rattle.std.proofs.Common.{◌≡◌, ℕ, zero, suc, ◌+◌, ◌-◌, ◌≤◌, Bool, true, false, ◌&&◌, eqb, leb, ◌⊎◌, List, [], ◌∷◌, ◌++◌, length, take, drop, sym, refl, ap, ◌∙◌, subst, inl, inr, arith}
 use Rattle.std.proofs.lemmas.List.{append-nil, append_assoc, length-append, length-take, length-drop, take_at, drop_at}
-use Rattle.std.proofs.lemmas.Bool.{true≢false, false≢true, and_parts, leb-true, eqb-true}
-use Rattle.plain.specs.Pattern.{pick, or, each, added_up, none_of, same, flat}
+use Rattle.std.proofs.lemmas.Bool.{true≢false, and_parts, leb-true, eqb-true}
 use Rattle.plain.specs.Command.{Deed, append, insert, change, delete, join, move, copy, mark, print, number, where_is, swap, go_to, undo, redo, save, edit, load, files, bad, Simple}
 use Rattle.plain.specs.House.{File}
-use Rattle.plain.proofs.Basics.{each_append, length_each, added_append}
+use Rattle.plain.proofs.Basics.{each_append, added_append}
 use Rattle.plain.proofs.Moved.{split_three}
-use Rattle.journal.specs.Log.{Source, no_entries, new_entries, copied, Splice, splice, no_splice, incoming, apply}
-use Rattle.journal.specs.Small.{entry, Small, small, updated, pushed}
-use Rattle.commands.specs.Kept.{Kept, kept, line_size, lines_size, file_size, sum, stand_size, file_lines, directory, offset, kept_weight}
+use Rattle.journal.specs.Log.{Source, no_entries, new_entries, copied, incoming, apply}
+use Rattle.journal.specs.Small.{entry, small, pushed}
+use Rattle.commands.specs.Kept.{Kept, line_size, lines_size, sum, stand_size, file_lines, directory, offset}
 use Rattle.commands.specs.Resolve.{Checked, good, refused, then, check, Bounds, command_bounds, there}
 use Rattle.commands.specs.Plan as plan
 use Rattle.commands.specs.Plan.{entry_of, table, Slot, Plan, Walk, skip, measure, glue, Rows, text_plan, show_plan, say_plan, file_plan, decide, decide_deed, known, writable}
 use Rattle.commands.specs.Turn as turn
 use Rattle.commands.specs.Turn.{lines_given, name_given, given_of, sizes_of, slot_in, walked, updated_by, with_lines, with_file_at, kept_after, decision}
-use Rattle.commands.specs.Smalls.{smalls_of, news_by, smalls_weight, entry_size}
+use Rattle.commands.specs.Smalls.{news_by, entry_size}
 use Rattle.commands.specs.Held.{AsPlanned, Inside, PlansStand, SmallsWeigh}
 use Rattle.commands.proofs.Lists.{each_take, each_drop, added_each, flat_append}
 use Rattle.commands.proofs.Files.{file, There, Missing, looked, at_place, at_end}

@@ -1,8 +1,8 @@
 -- What is read gives lines and names of bytes, no more lines than bytes were typed, and names that aren't too long. Assumes nothing.
-use Rattle.std.proofs.Common.{◌≡◌, ℕ, zero, suc, ◌+◌, ◌-◌, ◌*◌, ◌<◌, ◌≤◌, Bool, true, false, not, ◌&&◌, eqb, ltb, leb, List, [], ◌∷◌, ◌++◌, length, get_or, sym, refl, ap, ◌∙◌, subst, arith}
-use Rattle.std.proofs.lemmas.Bool.{true≢false, false≢true, and_parts, and_from, leb-true, le-leb, ltb-true}
-use Rattle.plain.specs.Pattern.{pick, or, every, any, none_of, same, between, all_bytes, Got, none, got, with_got, next_is, less_one}
-use Rattle.plain.specs.Command.{Address, Range, Deed, append, insert, change, delete, join, move, copy, mark, print, number, where_is, swap, go_to, undo, redo, save, edit, load, files, bad, Simple, Command, plain, all_lines, digit, digits_long, starts_digit, number_part, after_digits, up_to, here, address, amount, offsets, starts_address, base, an_address, range_of, or_here, a_range, lines_of, given, a_file, ended, which_of, deed, simple, for_many, command, whole_command, reads}
+use Rattle.std.proofs.Common.{◌≡◌, ℕ, zero, suc, ◌+◌, ◌≤◌, Bool, true, false, ◌&&◌, eqb, ltb, leb, List, [], ◌∷◌, ◌++◌, length, get_or, sym, refl, ap, subst, arith}
+use Rattle.std.proofs.lemmas.Bool.{and_parts, and_from, leb-true, le-leb, ltb-true}
+use Rattle.plain.specs.Pattern.{pick, or, every, any, none_of, between, all_bytes, Got, none, got, with_got, next_is, less_one}
+use Rattle.plain.specs.Command.{Address, Range, Deed, append, insert, change, delete, join, move, copy, mark, print, number, where_is, swap, go_to, undo, redo, save, edit, load, files, Simple, Command, plain, all_lines, digit, digits_long, number_part, after_digits, up_to, here, address, amount, offsets, starts_address, base, an_address, range_of, or_here, a_range, lines_of, given, a_file, ended, which_of, deed, simple, for_many, command, whole_command, reads}
 use Rattle.commands.specs.Kept.{fit_name}
 use Rattle.commands.specs.Turn.{lines_given, name_given}
 use Rattle.commands.specs.Held.{well_given, well_read, lines_read, ReadsWell, ReadsFew}

@@ -1,15 +1,15 @@
 -- What is kept stays beside the plain house: when lines are replaced, and when the text stays as it is. Assumes nothing.
-use Rattle.std.proofs.Common.{◌≡◌, ℕ, zero, suc, ◌+◌, ◌-◌, ◌*◌, ◌<◌, ◌≤◌, Bool, true, false, not, ◌&&◌, eqb, ltb, leb, ◌⊎◌, List, [], ◌∷◌, ◌++◌, reverse, length, take, drop, sym, refl, ap, ◌∙◌, subst, inl, inr, arith}
-use Rattle.std.proofs.lemmas.List.{append-nil, append_assoc, length-append, length-take, length-drop}
+use Rattle.std.proofs.Common.{◌≡◌, ℕ, suc, ◌+◌, ◌-◌, ◌*◌, ◌≤◌, true, not, ◌&&◌, ltb, leb, List, [], ◌∷◌, ◌++◌, reverse, length, take, drop, sym, refl, ap, ◌∙◌, subst, arith}
+use Rattle.std.proofs.lemmas.List.{append_assoc, length-append, length-take, length-drop}
 use Rattle.std.proofs.lemmas.Bool.{and_parts, and_from, leb-true, le-leb, ltb-true, lt-ltb}
-use Rattle.plain.specs.Pattern.{pick, or, every, any, each, added_up, none_of}
-use Rattle.plain.specs.House.{Line, Mark, Stand, Plain, File, how_many, put_lines, new_lines, with_text, line_weight, stand_weight, stands_weight, weight}
+use Rattle.plain.specs.Pattern.{pick, or, every, each, added_up, none_of}
+use Rattle.plain.specs.House.{Line, Stand, Plain, File, how_many, put_lines, new_lines, line_weight, stand_weight, stands_weight}
 use Rattle.plain.specs.Promise.{distinct, ids}
-use Rattle.plain.specs.Weight.{extra_break, PutWeight}
-use Rattle.plain.proofs.Basics.{In, in_each, in_each_from, every_in, every_by, each_append, length_each, added_same}
-use Rattle.plain.proofs.Goods.{Good, put_new, length_new, length_put}
+use Rattle.plain.specs.Weight.{PutWeight}
+use Rattle.plain.proofs.Basics.{in_each_from, every_in, every_by, each_append, length_each}
+use Rattle.plain.proofs.Goods.{Good, put_new}
 use Rattle.plain.proofs.Weights.{put_weight}
-use Rattle.commands.specs.Kept.{Kept, kept, kept_weight, line_size, lines_size, file_size, sum, moved_on, stand_size, fit_line, fit_lines, fit_file, other_names, Sound}
+use Rattle.commands.specs.Kept.{Kept, kept, line_size, lines_size, file_size, sum, stand_size, fit_line, fit_lines, fit_file, other_names}
 use Rattle.journal.specs.Small.{pushed}
 use Rattle.commands.specs.Turn.{with_lines}
 use Rattle.commands.specs.Held.{stand_weights, bytes_of, Held, WeighsAlike}

@@ -1,12 +1,12 @@
 -- The weight of what is kept after a command, from the weight before. Assumes nothing.
-use Rattle.std.proofs.Common.{◌≡◌, ℕ, zero, suc, ◌+◌, ◌-◌, ◌*◌, ◌<◌, ◌≤◌, Bool, true, false, not, ◌&&◌, eqb, ltb, leb, ◌⊎◌, List, [], ◌∷◌, ◌++◌, length, get_or, take, drop, sym, refl, ap, ◌∙◌, subst, inl, inr, arith}
+use Rattle.std.proofs.Common.{◌≡◌, ℕ, suc, ◌+◌, ◌≤◌, true, false, ◌⊎◌, List, [], ◌∷◌, ◌++◌, length, get_or, take, drop, refl, ap, ◌∙◌, inl, inr, arith}
 use Rattle.std.proofs.lemmas.Bool.{lt-ltb, le-ltb, cases_lt, cases_Bool}
-use Rattle.plain.specs.Pattern.{pick, added_up, same}
+use Rattle.plain.specs.Pattern.{added_up, same}
 use Rattle.plain.proofs.Basics.{added_append}
-use Rattle.journal.specs.Small.{Entry, entry, Small, small, pushed, updated}
+use Rattle.journal.specs.Small.{Entry, entry, pushed}
 use Rattle.commands.specs.Kept.{sum, stand_size}
-use Rattle.commands.specs.Plan.{Slot, slot_of, look_up, Plan, the_text, the_file}
-use Rattle.commands.specs.Smalls.{news_by, entry_size, smalls_weight, oldest, text_total, file_total, TotalsStand}
+use Rattle.commands.specs.Plan.{Slot, look_up}
+use Rattle.commands.specs.Smalls.{news_by, entry_size, oldest, file_total, TotalsStand}
 use Rattle.commands.proofs.Files.{same_true}
 
 -- THE RING

@@ -1,17 +1,17 @@
 -- The turn of what is kept is the plain house's turn, for every command of the core. Assumes nothing.
-use Rattle.std.proofs.Common.{◌≡◌, ℕ, zero, suc, ◌+◌, ◌-◌, ◌*◌, ◌<◌, ◌≤◌, Bool, true, false, not, ◌&&◌, eqb, ltb, leb, List, [], ◌∷◌, ◌++◌, length, sym, refl, ap, ◌∙◌, subst, arith}
-use Rattle.std.proofs.lemmas.Bool.{true≢false, false≢true, and_parts, and_from}
+use Rattle.std.proofs.Common.{◌≡◌, ℕ, suc, ◌≤◌, true, false, eqb, [], length, sym, refl, ◌∙◌, subst}
+use Rattle.std.proofs.lemmas.Bool.{false≢true, and_parts}
 use Rattle.plain.specs.Pattern.{pick, every, all_bytes}
-use Rattle.plain.specs.Command.{Deed, append, insert, change, delete, join, move, copy, mark, print, number, where_is, swap, go_to, undo, redo, save, edit, load, files, bad, Simple, Command, plain, all_lines}
-use Rattle.plain.specs.House.{Plain, Turn, turn, simple_turn, Both, how_many, where_of, simple_work, start_work, deed_work, failed, core, core_deed, plain_range}
+use Rattle.plain.specs.Command.{Deed, append, insert, change, delete, join, move, copy, mark, print, number, where_is, swap, go_to, undo, redo, save, edit, load, files, bad, Simple, plain, all_lines}
+use Rattle.plain.specs.House.{Plain, Turn, turn, simple_turn, Both, where_of, start_work, deed_work, failed, core, core_deed, plain_range}
 use Rattle.commands.specs.Kept.{Kept, fit_name}
 use Rattle.commands.specs.Resolve.{Checked, good, refused, Bounds, command_bounds}
 use Rattle.commands.specs.Plan.{Slot, decide, decide_deed, known}
-use Rattle.commands.specs.Turn.{KeptTurn, kept_no, kept_turn, lines_given, name_given, given_of, sizes_of, slot_in, decision, kept_does}
-use Rattle.commands.specs.Held.{Held, SameTurn, well_given, well_read, TurnsAlike}
+use Rattle.commands.specs.Turn.{kept_turn, lines_given, name_given, given_of, sizes_of, slot_in, kept_does}
+use Rattle.commands.specs.Held.{Held, SameTurn, well_given, TurnsAlike}
 use Rattle.commands.proofs.Resolved.{both_from, Worded, Ordered, where_same, bounds_worded, bounds-ordered}
 use Rattle.commands.proofs.Texts.{count_same}
-use Rattle.commands.proofs.Alike.{no_alike, Ends, append-ends, insert-ends, change-ends, delete-ends, join-ends, print-ends, number-ends, where-ends, go-ends}
+use Rattle.commands.proofs.Alike.{no_alike, append-ends, insert-ends, change-ends, delete-ends, join-ends, print-ends, number-ends, where-ends, go-ends}
 use Rattle.commands.proofs.Filed.{save-ends, edit-ends, files-ends}
 
 -- a turn at a range that was found, or wasn't

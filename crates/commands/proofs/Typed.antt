@@ -1,14 +1,13 @@
 -- Whatever is typed is answered as is allowed beside the plain house. Assumes nothing.
-use Rattle.std.proofs.Common.{◌≡◌, ℕ, zero, suc, ◌+◌, ◌-◌, ◌*◌, ◌<◌, ◌≤◌, Bool, true, false, not, ◌&&◌, eqb, ltb, leb, ◌⊎◌, List, [], ◌∷◌, ◌++◌, length, sym, refl, ap, ◌∙◌, subst, inl, inr, arith}
-use Rattle.std.proofs.lemmas.Bool.{false≢true, le-ltb, and_left}
-use Rattle.plain.specs.Pattern.{pick}
-use Rattle.plain.specs.Command.{Simple, Command, plain, all_lines, reads}
-use Rattle.plain.specs.House.{Plain, turn, core}
+use Rattle.std.proofs.Common.{◌≡◌, ℕ, ◌*◌, ◌≤◌, Bool, true, false, ltb, List, [], ◌∷◌, length, sym, refl, ap, ◌∙◌, subst, inl, inr, arith}
+use Rattle.std.proofs.lemmas.Bool.{le-ltb, and_left}
+use Rattle.plain.specs.Command.{Command, plain, all_lines, reads}
+use Rattle.plain.specs.House.{Plain, core}
 use Rattle.plain.specs.Promise.{May}
 use Rattle.commands.specs.Kept.{Kept, kept_weight}
 use Rattle.commands.specs.Plan.{decide}
-use Rattle.commands.specs.Turn.{KeptTurn, kept_no, kept_turn, no_room, within_room, room_turn}
-use Rattle.commands.specs.Held.{Held, well_read, may_spend, may_spend_on, Allowed, TurnsAllowed, ReadsWell, typed_turn, MayBe, TypedAllowed}
+use Rattle.commands.specs.Turn.{kept_no, kept_turn, within_room, room_turn}
+use Rattle.commands.specs.Held.{Held, may_spend, may_spend_on, TurnsAllowed, ReadsWell, typed_turn, MayBe, TypedAllowed}
 use Rattle.commands.proofs.Granted.{turns_allowed}
 use Rattle.commands.proofs.Readings.{reads_well, reads_one}
 

@@ -1,5 +1,5 @@
 -- A walk on which lines are shown or joined is of a command without lines given. Assumes nothing.
-use Rattle.std.proofs.Common.{◌≡◌, ℕ, Bool, true, false, leb, List, [], refl, subst}
+use Rattle.std.proofs.Common.{◌≡◌, ℕ, Bool, true, false, leb, [], refl, subst}
 use Rattle.std.proofs.lemmas.Bool.{false≢true}
 use Rattle.plain.specs.Command.{Deed, append, insert, change, delete, join, move, copy, mark, print, number, where_is, swap, go_to, undo, redo, save, edit, load, files, bad, Simple}
 use Rattle.commands.specs.Resolve.{Checked, good, refused, then, check, Bounds, command_bounds, there}

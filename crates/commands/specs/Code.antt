@@ -1,5 +1,5 @@
 -- Which value of the definitions each type of the code stands for. Assumes nothing.
-use Rattle.std.specs.Prelude.{◌≡◌, ℕ, suc, ◌<◌, ◌≤◌, Bool, true, false, List, [], length, Some, None, Ok, Err, Option, Result}
+use Rattle.std.specs.Prelude.{ℕ, suc, ◌<◌, ◌≤◌, Bool, true, false, length, Some, None, Ok, Err, Option, Result}
 use Rattle.plain.specs.House.{short_all}
 use Rattle.typed.specs.declared.given.Lines.{Lines}
 use Rattle.typed.specs.Meaning.{lines_in}
@@ -17,7 +17,6 @@ use Rattle.commands.specs.declared.plan.Source as code_source
 use Rattle.commands.specs.declared.plan.Source.TheVariants as sources
 use Rattle.commands.specs.declared.plan.Splice as code_splice
 use Rattle.commands.specs.declared.plan.Span as code_span
-use Rattle.commands.specs.declared.plan.Coming as code_coming
 use Rattle.commands.specs.declared.plan.Sizes as code_sizes
 use Rattle.commands.specs.declared.plan.Slot as code_slot
 use Rattle.commands.specs.declared.plan.Plan as code_plan

@@ -1,16 +1,16 @@
 -- What is kept beside the plain house: the same lines, files and weights. Assumes nothing: these are definitions, and statements that are contracts of functions of this crate.
-use Rattle.std.specs.Prelude.{◌≡◌, ℕ, zero, suc, ◌+◌, ◌-◌, ◌*◌, ◌<◌, ◌≤◌, Bool, true, false, not, ◌&&◌, List, [], ◌∷◌, ◌++◌, reverse, length, nat_le, nat_lt}
+use Rattle.std.specs.Prelude.{◌≡◌, ℕ, zero, suc, ◌+◌, ◌-◌, ◌*◌, ◌<◌, ◌≤◌, Bool, true, not, ◌&&◌, List, [], ◌∷◌, reverse, length, nat_le, nat_lt}
 use Rattle.plain.specs.Pattern.{pick, every, each, all_bytes}
-use Rattle.plain.specs.Command.{Deed, append, insert, change, delete, join, move, copy, mark, print, number, where_is, swap, go_to, undo, redo, save, edit, load, files, bad, Simple, Command, plain, all_lines, reads}
-use Rattle.plain.specs.House.{Line, Stand, Plain, Turn, turn, core, how_many, stand_weight, weight, plain_range, given_lines}
-use Rattle.plain.specs.Promise.{distinct, ids, goes_through, may_use, TurnMay, May, first_plain}
-use Rattle.journal.specs.Log.{Source, no_entries, new_entries, copied, Splice, apply}
+use Rattle.plain.specs.Command.{Deed, Simple, Command, plain, all_lines, reads}
+use Rattle.plain.specs.House.{Line, Stand, Plain, Turn, turn, core, stand_weight, weight}
+use Rattle.plain.specs.Promise.{distinct, ids, goes_through, TurnMay, May, first_plain}
+use Rattle.journal.specs.Log.{Source, no_entries, new_entries, copied, apply}
 use Rattle.commands.specs.Kept.{Kept, kept_weight, directory, Sound, nothing_kept, fit_name, lines_size}
 use Rattle.commands.specs.Resolve.{Checked, good, refused, Bounds, command_bounds}
 use Rattle.commands.specs.Plan.{Plan}
-use Rattle.commands.specs.Turn.{KeptTurn, kept_turn, kept_no, room_turn, decision, walked, too_long, new_lines_of, lines_that_come, kept_after, lines_given, name_given}
+use Rattle.commands.specs.Turn.{KeptTurn, kept_turn, kept_no, room_turn, decision, walked, new_lines_of, lines_that_come, kept_after, lines_given, name_given}
 use Rattle.commands.specs.Smalls.{smalls_of, news_by, smalls_weight}
-use Rattle.journal.specs.Small.{Small, updated}
+use Rattle.journal.specs.Small.{updated}
 
 -- the weights of what was before, each beside the next newer one, the newest first
 unfoldable pub stand_weights : Stand → List Stand → List ℕ

@@ -1,7 +1,7 @@
 -- What is kept from command to command: the lines of the text and of the files, the current line, and the weights of what was before. Assumes nothing:
 -- these are definitions.
-use Rattle.std.specs.Prelude.{◌≡◌, ℕ, zero, suc, ◌+◌, ◌-◌, ◌*◌, ◌<◌, ◌≤◌, Bool, true, false, not, ◌&&◌, List, [], ◌∷◌, ◌++◌, length, nat_le, nat_lt}
-use Rattle.plain.specs.Pattern.{pick, or, every, any, each, flat, added_up, none_of, same, all_bytes}
+use Rattle.std.specs.Prelude.{◌≡◌, ℕ, ◌+◌, ◌-◌, ◌*◌, ◌≤◌, Bool, true, not, ◌&&◌, List, [], ◌∷◌, ◌++◌, length, nat_le, nat_lt}
+use Rattle.plain.specs.Pattern.{pick, or, every, any, flat, added_up, same, all_bytes}
 use Rattle.plain.specs.House.{File}
 
 pub record Kept : Type 0 where

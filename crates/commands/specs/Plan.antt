@@ -1,9 +1,9 @@
 -- What is going to be done for a command, decided from small numbers alone: which lines are walked over, what becomes of the directory, what is shown.
 -- Assumes nothing: these are definitions.
-use Rattle.std.specs.Prelude.{ℕ, zero, suc, ◌+◌, ◌-◌, Bool, true, false, not, ◌&&◌, List, [], ◌∷◌, length, ◌==◌, nat_le, nat_lt}
-use Rattle.plain.specs.Pattern.{pick, or, every, each, none_of, same}
-use Rattle.plain.specs.Command.{Address, Range, Deed, append, insert, change, delete, join, move, copy, mark, print, number, where_is, swap, go_to, undo, redo, save, edit, load, files, bad, Simple, Command, plain, all_lines}
-use Rattle.plain.specs.House.{File, smaller, short_all, plain_range, core_deed}
+use Rattle.std.specs.Prelude.{ℕ, suc, ◌+◌, ◌-◌, Bool, true, false, ◌&&◌, List, [], ◌∷◌, length, ◌==◌, nat_le, nat_lt}
+use Rattle.plain.specs.Pattern.{pick, or, each, same}
+use Rattle.plain.specs.Command.{Deed, append, insert, change, delete, join, move, copy, mark, print, number, where_is, swap, go_to, undo, redo, save, edit, load, files, bad, Simple}
+use Rattle.plain.specs.House.{File, smaller, plain_range, core_deed}
 use Rattle.journal.specs.Log.{Source, no_entries, new_entries, copied, Splice, splice, no_splice}
 use Rattle.commands.specs.Kept.{lines_size}
 use Rattle.commands.specs.Resolve.{Checked, good, refused, then, check, Bounds, command_bounds, there}

@@ -1,9 +1,9 @@
 -- The small numbers beside the directory, and what a commit says of them. Assumes nothing: these are definitions.
-use Rattle.std.specs.Prelude.{◌≡◌, ℕ, zero, suc, ◌+◌, ◌-◌, ◌≤◌, Bool, List, [], ◌∷◌, ◌++◌, length, nat_lt, slice_index}
+use Rattle.std.specs.Prelude.{◌≡◌, ℕ, ◌+◌, ◌-◌, ◌≤◌, Bool, List, length, nat_lt, slice_index}
 use Rattle.plain.specs.Pattern.{pick, added_up}
 use Rattle.commands.specs.Kept.{Kept, lines_size, sum, stand_size}
 use Rattle.commands.specs.Plan.{table, look_up, Plan, Update, same_as_before, current_only, the_text, the_file}
-use Rattle.journal.specs.Small.{Entry, entry, Small, small, Also, nothing_else, push, slot, News, news, pushed, ring_by, files_by, updated}
+use Rattle.journal.specs.Small.{Entry, entry, Small, small, nothing_else, push, slot, News, news, updated}
 
 abbrev pub smalls_of : Kept → Small
 smalls_of k = small (length k.text) k.at (lines_size k.text) k.ring (table k.files)

@@ -1,9 +1,9 @@
 -- What a command does to what is kept: the decision, the walk over lines, and what comes of both. Assumes nothing: these are definitions.
-use Rattle.std.specs.Prelude.{ℕ, zero, suc, ◌+◌, ◌-◌, ◌*◌, Bool, true, false, not, ◌&&◌, List, [], ◌∷◌, ◌++◌, length, take, drop, nat_lt}
+use Rattle.std.specs.Prelude.{ℕ, suc, ◌-◌, ◌*◌, Bool, false, ◌&&◌, List, [], ◌∷◌, ◌++◌, length, take, drop, nat_lt}
 use Rattle.plain.specs.Pattern.{pick, each, flat, eight}
 use Rattle.plain.specs.Command.{Deed, append, insert, change, delete, join, move, copy, mark, print, number, where_is, swap, go_to, undo, redo, save, edit, load, files, bad, Simple, Command, plain, all_lines}
 use Rattle.plain.specs.House.{File, file_row, short_all}
-use Rattle.journal.specs.Log.{Splice, incoming, apply}
+use Rattle.journal.specs.Log.{incoming}
 use Rattle.commands.specs.Kept.{Kept, kept, kept_weight, lines_size, stand_size, directory, offset}
 use Rattle.commands.specs.Resolve.{Checked, good, refused}
 use Rattle.commands.specs.Plan.{Plan, Walk, skip, show, show_numbered, measure, glue, Update, same_as_before, current_only, the_text, the_file, Rows, no_row, a_number, all_files, Sizes, sizes, Slot, look_up, table, Given, given_size, decide}

@@ -1,5 +1,6 @@
 //! What each command does to what is kept: which lines it speaks of, whether it is refused, and the plan of what is done; and that this is what the plain
 //! house does.
+#![tactic(auto)]
 
 mod bounds;
 mod decide;

@@ -7,7 +7,7 @@ use Rattle.plain.specs.Promise.{all_longer}
 use Rattle.plain.specs.Run.{next}
 use Rattle.journal.specs.Log.{Rec, head, commit, set_up, no_splice, head_of, begin_records, next_generation}
 use Rattle.journal.specs.Small.{News, updated, no_state, set_up_of}
-use Rattle.records.specs.Pages.{page_of, record_of}
+use Rattle.records.specs.Pages.{page_of}
 use Rattle.journal.proofs.Machine.{going, Goes, after_did}
 use Rattle.journal.proofs.Contents.{layout_new_is}
 use Rattle.journal.proofs.Lifecycle as lifecycle

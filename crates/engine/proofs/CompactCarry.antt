@@ -8,7 +8,6 @@ use Rattle.plain.specs.Promise.{all_longer}
 use Rattle.plain.specs.Run.{page, read, fasten}
 use Rattle.journal.specs.Log.{Position, position, hole, next_generation, Sides}
 use Rattle.journal.specs.Small.{updated, no_state}
-use Rattle.records.specs.Pages.{record_of}
 use Rattle.journal.specs.Machine.{did}
 use Rattle.journal.proofs.Machine.{going, Goes, after_did}
 use Rattle.journal.proofs.Contents.{layout_new_is, sides_turn}

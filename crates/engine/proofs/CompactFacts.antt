@@ -7,7 +7,6 @@ use Rattle.plain.specs.Pattern.{pick}
 use Rattle.plain.specs.Device.{Device, tape_of, stopped}
 use Rattle.journal.specs.Log.{Position, hole, next_generation}
 use Rattle.journal.specs.Small.{updated, no_state}
-use Rattle.records.specs.Pages.{record_of}
 use Rattle.journal.proofs.Alike.{alike_length}
 use Rattle.journal.proofs.Contents.{layout_new_is}
 use Rattle.journal.proofs.Lifecycle as lifecycle
@@ -18,7 +17,7 @@ use Rattle.engine.specs.State.{House, Phase, at_phase, passive}
 use Rattle.engine.specs.Fits.{Fits, ReplayFits, PositionFits, PositionsFit, none, more}
 use Rattle.engine.specs.Packing.{records_on, lines_records}
 use Rattle.engine.specs.Machine.{next_on}
-use Rattle.engine.proofs.Facts.{Codec, OffAt, Powered, Quiet, Busy, Active, Copying, lines_of_kept}
+use Rattle.engine.proofs.Facts.{Codec, OffAt, Powered, Quiet, Busy, lines_of_kept}
 use Rattle.engine.proofs.Devices.{Firm, firm-off}
 
 -- FACTS, where the tape that counts has m records

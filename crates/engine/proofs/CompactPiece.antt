@@ -5,7 +5,7 @@ use Rattle.plain.specs.Device.{Device, Page, tape_of, stopped, longer, read_reco
 use Rattle.plain.specs.Promise.{all_longer}
 use Rattle.plain.specs.Run.{page}
 use Rattle.journal.specs.Log.{position, copy, Piece, piece_in, copies, head_of}
-use Rattle.records.specs.Pages.{page_of, record_of}
+use Rattle.records.specs.Pages.{page_of}
 use Rattle.journal.proofs.Machine.{going, Goes, after_did}
 use Rattle.commands.specs.Kept.{Kept, fit_line}
 use Rattle.engine.specs.State.{House, carry_read, carry_put, at_phase, with_tapes, with_other, with_cursor, with_store, with_dir, with_carrying, carrying_of, passive}

@@ -1,24 +1,22 @@
 -- The course of a command: what it is to show, how it is to end, and what is to be kept then. It is fixed before the first act, and each phase is about one course.
 -- Assumes nothing.
-use Rattle.std.proofs.Common.{◌≡◌, ℕ, zero, suc, ◌+◌, ◌-◌, ◌*◌, ◌<◌, ◌≤◌, Bool, true, false, ◌⊎◌, List, [], ◌∷◌, ◌++◌, length, sym, refl, ap, ◌∙◌, subst, inl, inr, append_assoc, append-nil, arith}
+use Rattle.std.proofs.Common.{◌≡◌, ℕ, suc, ◌+◌, ◌*◌, ◌<◌, ◌≤◌, Bool, true, List, [], ◌++◌, sym, refl, ◌∙◌, subst, inl, inr, append-nil, arith}
 use Rattle.std.proofs.lemmas.Bool.{lt-ltb}
 use Rattle.plain.specs.Pattern.{pick}
 use Rattle.plain.specs.House.{Plain, core}
-use Rattle.plain.specs.Device.{Device, Page, longer, fastened, anew, read_record, stopped}
+use Rattle.plain.specs.Device.{Device, Page, longer, fastened, anew, read_record}
 use Rattle.plain.specs.Run.{page, next, read, put_on, fasten, begin, has_room}
 use Rattle.plain.specs.Promise.{May}
 use Rattle.journal.specs.Log.{Rec}
 use Rattle.journal.specs.Small.{News}
-use Rattle.records.specs.Pages.{record_of}
-use Rattle.journal.specs.Machine.{Did, did, Machine}
-use Rattle.journal.proofs.Running.{Torn, Anywhere}
-use Rattle.journal.proofs.Machine.{Where, going, over, Goes, is_over, is_going, after_act, after_did, Did-it}
+use Rattle.journal.proofs.Running.{Anywhere}
+use Rattle.journal.proofs.Machine.{Where, going, over, Goes, is_going, after_act, after_did, Did-it}
 use Rattle.commands.specs.Kept.{Kept, kept_weight}
 use Rattle.commands.specs.Held.{Held}
 use Rattle.engine.specs.State.{House, Phase}
 use Rattle.engine.specs.Fits.{Fits}
 use Rattle.engine.specs.Machine.{machine_by, answers_by, on_next, on_record}
-use Rattle.engine.proofs.Facts.{Codec, OffAt, Off, Safe, Idle}
+use Rattle.engine.proofs.Facts.{Codec, Off, Safe, Idle}
 
 pub record Course (R : ℕ) (w : Plain) (t : List ℕ) : Type 0 where
   pub shown : List (List ℕ)

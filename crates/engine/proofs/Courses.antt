@@ -1,13 +1,13 @@
 -- The course of whatever is typed, where this is kept. Assumes nothing.
-use Rattle.std.proofs.Common.{◌≡◌, ℕ, zero, suc, ◌+◌, ◌-◌, ◌*◌, ◌<◌, ◌≤◌, Bool, true, false, not, ◌&&◌, eqb, ltb, leb, ◌⊎◌, List, [], ◌∷◌, ◌++◌, length, sym, refl, ap, ◌∙◌, subst, inl, inr, arith}
+use Rattle.std.proofs.Common.{◌≡◌, ℕ, ◌*◌, ◌<◌, ◌≤◌, Bool, true, false, not, ltb, leb, List, [], ◌∷◌, length, sym, refl, ap, ◌∙◌, subst, inl, inr, arith}
 use Rattle.std.proofs.lemmas.Bool.{le-leb, and_parts, ltb-true}
 use Rattle.plain.specs.Pattern.{pick}
-use Rattle.plain.specs.Command.{Simple, Command, plain, all_lines, reads}
-use Rattle.plain.specs.House.{Plain, Turn, turn, core, weight}
-use Rattle.plain.specs.Promise.{May, TurnMay, may_use, goes_through}
+use Rattle.plain.specs.Command.{Command, plain, all_lines, reads}
+use Rattle.plain.specs.House.{Plain, turn, core, weight}
+use Rattle.plain.specs.Promise.{May, TurnMay, goes_through}
 use Rattle.commands.specs.Kept.{Kept, kept_weight}
 use Rattle.commands.specs.Turn.{KeptTurn, kept_no, kept_turn, no_room, within_room, room_turn}
-use Rattle.commands.specs.Held.{Held, TurnsAlike, WeighsAlike, ReadsWell, may_spend, may_spend_on, grant, typed_turn}
+use Rattle.commands.specs.Held.{Held, TurnsAlike, WeighsAlike, ReadsWell, may_spend_on, grant, typed_turn}
 use Rattle.commands.proofs.Granted.{spends_alike, done-turn, room-kept}
 use Rattle.commands.proofs.Texts.{weighs_alike}
 use Rattle.commands.proofs.Turned.{turns_alike}

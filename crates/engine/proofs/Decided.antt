@@ -1,5 +1,5 @@
 -- How a command that can be planned comes out, and how it is weighed. Assumes nothing.
-use Rattle.std.proofs.Common.{◌≡◌, ℕ, suc, ◌+◌, ◌-◌, ◌*◌, ◌≤◌, Bool, true, false, List, [], length, sym, refl, ap, ◌∙◌, subst, inl, inr}
+use Rattle.std.proofs.Common.{◌≡◌, ℕ, suc, ◌+◌, ◌*◌, ◌≤◌, Bool, true, false, List, [], length, sym, refl, ap, ◌∙◌, subst, inl, inr}
 use Rattle.plain.specs.Pattern.{pick}
 use Rattle.plain.specs.Command.{Deed, Simple}
 use Rattle.plain.specs.House.{Plain}
@@ -20,7 +20,6 @@ use Rattle.engine.specs.Packing.{lines_records}
 use Rattle.engine.specs.Machine.{Does, text_at, quota_by, quota_of, need, prepare, weigh, decision, slot_for, refuses}
 use Rattle.engine.proofs.Facts.{Codec, Rest}
 use Rattle.engine.proofs.Course.{Course, Leads, On-course, chosen}
-use Rattle.engine.proofs.Courses.{course}
 use Rattle.engine.proofs.Finish.{rest_small}
 use Rattle.engine.proofs.Fetching.{text_starts}
 use Rattle.engine.proofs.PlanSums.{JobPlan, size_of}

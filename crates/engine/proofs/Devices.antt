@@ -9,7 +9,6 @@ use Rattle.plain.specs.Promise.{all_longer}
 use Rattle.plain.specs.Run.{has_room}
 use Rattle.journal.specs.Log.{Position, Sides, ahead, back, head_of, next_generation, InCycle, cycle_1, cycle_2, cycle_3}
 use Rattle.journal.specs.Small.{updated, no_state}
-use Rattle.records.specs.Pages.{record_of}
 use Rattle.journal.proofs.Contents.{layout_old_is}
 use Rattle.journal.proofs.Lifecycle as lifecycle
 use Rattle.commands.specs.Kept.{Kept}

@@ -1,19 +1,18 @@
 -- What holds of the machine and its device, without power, at rest and in between. Assumes nothing.
-use Rattle.std.proofs.Common.{◌≡◌, ℕ, zero, suc, ◌+◌, ◌-◌, ◌*◌, ◌<◌, ◌≤◌, Bool, true, false, ◌⊎◌, List, [], ◌∷◌, ◌++◌, map, length, sym, refl, ap, ◌∙◌, subst, inl, inr}
-use Rattle.plain.specs.House.{Plain, core}
+use Rattle.std.proofs.Common.{◌≡◌, ℕ, ◌*◌, ◌≤◌, Bool, true, false, ◌⊎◌, List, [], length}
+use Rattle.plain.specs.House.{Plain}
 use Rattle.plain.specs.Device.{Device, Page, tape_of, a_page, stopped}
-use Rattle.plain.specs.Promise.{May}
-use Rattle.journal.specs.Log.{Position, Rec, broken, Packed, State, tapes, halved}
-use Rattle.journal.specs.Small.{Small, News, updated, no_state}
+use Rattle.journal.specs.Log.{Rec, broken, Packed, tapes, halved}
+use Rattle.journal.specs.Small.{News, updated, no_state}
 use Rattle.journal.specs.Room.{Carrying}
-use Rattle.records.specs.Pages.{page_of, record_of}
+use Rattle.records.specs.Pages.{page_of}
 use Rattle.journal.proofs.Recovery as recovery
 use Rattle.journal.proofs.Lifecycle as lifecycle
 use Rattle.journal.proofs.Waiting.{waiting, Behind}
 use Rattle.commands.specs.Kept.{Kept, kept_weight, directory}
 use Rattle.commands.specs.Smalls.{smalls_of}
 use Rattle.commands.specs.Held.{Held}
-use Rattle.engine.specs.State.{House, Phase, idle, passive}
+use Rattle.engine.specs.State.{House, idle, passive}
 use Rattle.engine.specs.Fits.{RecordFits, ReplayFits, Fits}
 use Rattle.engine.specs.Packing.{packs, records_on}
 use Rattle.engine.specs.Machine.{threshold}

@@ -9,7 +9,6 @@ use Rattle.plain.specs.Device.{Device, Page, read_record}
 use Rattle.plain.proofs.Basics.{added_append}
 use Rattle.journal.specs.Log.{Position, hole, no_piece, pieces_of, piece_in}
 use Rattle.journal.specs.Small.{updated, no_state}
-use Rattle.records.specs.Pages.{record_of}
 use Rattle.journal.proofs.Lifecycle as lifecycle
 use Rattle.journal.proofs.Machine.{after_did}
 use Rattle.commands.specs.Kept.{Kept, kept_weight, lines_size, directory, file_lines, offset, fit_line}

@@ -1,14 +1,13 @@
 -- What is kept fits, as long as it is no heavier than a sixteenth of a tape. Assumes nothing.
-use Rattle.std.proofs.Common.{◌≡◌, ℕ, zero, suc, ◌+◌, ◌*◌, ◌<◌, ◌≤◌, Bool, true, false, ◌&&◌, ltb, leb, ◌⊎◌, List, [], ◌∷◌, ◌++◌, length, sym, refl, ap, ◌∙◌, subst, inl, inr, arith}
-use Rattle.std.proofs.lemmas.Bool.{and_parts, and_from, lt-ltb, le-leb, leb-true}
-use Rattle.plain.specs.Pattern.{every, each, added_up, all_bytes}
+use Rattle.std.proofs.Common.{◌≡◌, ℕ, ◌*◌, ◌<◌, ◌≤◌, true, List, [], ◌∷◌, length, refl, arith}
+use Rattle.std.proofs.lemmas.Bool.{and_parts, and_from, lt-ltb}
+use Rattle.plain.specs.Pattern.{every, added_up}
 use Rattle.plain.specs.House.{File}
 use Rattle.plain.proofs.Basics.{length_each}
-use Rattle.journal.specs.Small.{Entry, Small}
 use Rattle.commands.specs.Kept.{Kept, kept_weight, lines_size, sum, file_size, fit_file, fit_name, fit_lines, directory, Sound}
 use Rattle.commands.specs.Plan.{entry_of, table}
 use Rattle.commands.specs.Smalls.{smalls_of}
-use Rattle.engine.specs.Fits.{Word, words, entry_fits, SmallFits, ReplayFits}
+use Rattle.engine.specs.Fits.{words, entry_fits, SmallFits, ReplayFits}
 use Rattle.engine.proofs.Shares.{directory_weighs, lines_few}
 
 few_lines : (ls : List (List ℕ)) → length ls ≤ lines_size ls

@@ -1,15 +1,15 @@
 -- Records that fit the machine fit their pages. Assumes nothing.
-use Rattle.std.proofs.Common.{◌≡◌, ℕ, ◌<◌, ◌≤◌, true, ◌&&◌, ltb, leb, length, refl, arith}
+use Rattle.std.proofs.Common.{ℕ, ◌≤◌, ◌&&◌, ltb, leb, length, arith}
 use Rattle.std.proofs.lemmas.Bool.{and_parts, ltb-true, leb-true}
 use Rattle.plain.specs.Pattern.{all_bytes}
 use Rattle.journal.specs.Log.{Source, no_entries, new_entries, copied, Splice, Piece, Rec, head, line, copy, commit, broken}
-use Rattle.journal.specs.Small.{Entry, Also, nothing_else, push, slot, News}
+use Rattle.journal.specs.Small.{Also, nothing_else, push, slot, News}
 use Rattle.records.specs.Pages as pages
 use Rattle.records.specs.Pages.{SmallNumber, record_of}
 use Rattle.records.specs.Checked.{checked_record_of}
 use Rattle.records.proofs.Checks.{Beside, checked_back, checked_torn, checked_none}
 use Rattle.records.proofs.Pages.{page-back, page-whole, torn-broken, none_broken}
-use Rattle.engine.specs.Fits.{Word, entry_fits, SourceFits, SpliceFits, AlsoFits, NewsFits, PieceFits, RecordFits}
+use Rattle.engine.specs.Fits.{SourceFits, SpliceFits, AlsoFits, NewsFits, PieceFits, RecordFits}
 use Rattle.engine.proofs.Facts.{Codec}
 
 source_from : (s : Source) → SourceFits s → SmallNumber (pages.source_from s)

@@ -2,11 +2,10 @@
 use Rattle.std.proofs.Common.{◌≡◌, ℕ, suc, ◌+◌, ◌≤◌, Bool, true, false, eqb, List, [], ◌∷◌, ◌++◌, length, get_or, sym, refl, ap, ◌∙◌, arith, length-append}
 use lib.ListN.{length-map}
 use Rattle.plain.specs.Pattern.{pick}
-use Rattle.plain.specs.Device.{Device, Page, Tape, tape, tape_of, with_tape, longer, fastened, stopped}
+use Rattle.plain.specs.Device.{Device, Page, Tape, tape_of, with_tape, longer, fastened, stopped}
 use Rattle.plain.specs.Promise.{all_longer}
 use Rattle.journal.specs.Log.{Rec, Sides, ahead, back, tapes}
 use Rattle.journal.specs.Small.{News, updated, no_state}
-use Rattle.records.specs.Pages.{record_of}
 use Rattle.journal.proofs.Recovery as recovery
 use Rattle.journal.proofs.Contents.{Layout, layout_old_is, layout_new_is}
 use Rattle.commands.specs.Kept.{Kept}

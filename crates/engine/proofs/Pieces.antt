@@ -7,7 +7,7 @@ use Rattle.plain.specs.Pattern.{pick, every, all_bytes}
 use Rattle.plain.specs.House.{File}
 use Rattle.plain.proofs.Basics.{every_append}
 use Rattle.journal.specs.Log.{copy, no_piece, pieces_of, copies, copy_records}
-use Rattle.records.specs.Pages.{page_of, record_of}
+use Rattle.records.specs.Pages.{page_of}
 use Rattle.commands.specs.Kept.{Kept, directory, fit_line, fit_lines, fit_file, fit_name, file_lines, Sound}
 use Rattle.records.specs.Lines.{share}
 use Rattle.engine.specs.Fits.{Word, PieceFits, RecordFits}

@@ -7,7 +7,7 @@ use Rattle.plain.specs.Pattern.{pick, or}
 use Rattle.plain.specs.Command.{Deed, append, insert, change, delete, join, move, copy, mark, print, number, where_is, swap, go_to, undo, redo, save, edit, load, files, bad, Simple}
 use Rattle.plain.specs.House.{smaller, short_all}
 use Rattle.plain.specs.Promise.{goes_through}
-use Rattle.journal.specs.Log.{no_entries, new_entries, splice}
+use Rattle.journal.specs.Log.{no_entries, new_entries}
 use Rattle.commands.specs.Kept.{Kept, lines_size, directory, offset, Sound}
 use Rattle.commands.specs.Resolve.{Checked, good, check, Bounds, command_bounds, there}
 use Rattle.commands.specs.Plan as plan

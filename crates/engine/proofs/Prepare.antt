@@ -1,27 +1,26 @@
 -- Before anything is put on: from the decision to begin, with carrying as far as it is due, to the first record of the command. Assumes nothing.
-use Rattle.std.proofs.Common.{◌≡◌, ℕ, zero, suc, ◌+◌, ◌-◌, ◌*◌, ◌<◌, ◌≤◌, Bool, true, false, ltb, ◌⊎◌, List, [], ◌∷◌, ◌++◌, length, sym, refl, ap, ◌∙◌, subst, inl, inr, arith}
+use Rattle.std.proofs.Common.{◌≡◌, ℕ, suc, ◌+◌, ◌-◌, ◌*◌, ◌≤◌, Bool, true, false, ltb, List, length, sym, ap, ◌∙◌, subst, inl, inr, arith}
 use lib.ListN.{length-map}
-use Rattle.std.proofs.lemmas.Bool.{ltb-true, ltb-false, cases_Bool}
+use Rattle.std.proofs.lemmas.Bool.{ltb-false, cases_Bool}
 use Rattle.plain.specs.House.{Plain}
 use Rattle.plain.specs.Device.{Device, stopped}
-use Rattle.journal.specs.Log.{Source, no_entries, new_entries, copied}
 use Rattle.journal.specs.Room.{Rooms, Carrying}
 use Rattle.journal.proofs.Alike.{alike_length}
 use Rattle.journal.proofs.Machine.{after_did}
 use Rattle.journal.proofs.Waiting.{waiting}
-use Rattle.commands.specs.Kept.{Kept, kept_weight, directory, Sound}
+use Rattle.commands.specs.Kept.{Kept, kept_weight, directory}
 use Rattle.commands.specs.Held.{Held}
 use Rattle.commands.specs.Turn.{more_rows}
-use Rattle.engine.specs.State.{House, Job, Walking, passive}
+use Rattle.engine.specs.State.{House, Job, passive}
 use Rattle.engine.specs.Fits.{Fits, Word}
 use Rattle.engine.specs.Packing.{records_on, lines_records}
 use Rattle.commands.specs.Smalls.{news_by}
-use Rattle.engine.specs.Machine.{Does, came_weight, need, job_size, no_limit, quota_by, quota_of, threshold, with_quota, news_of, prepare, carry, begin_other, go_on, start_pass, ends_done}
-use Rattle.engine.proofs.Facts.{Codec, OffAt, Safe, Powered, Quiet, Busy, Rest, quiet, busy}
+use Rattle.engine.specs.Machine.{Does, came_weight, need, job_size, no_limit, quota_of, threshold, with_quota, news_of, prepare, carry, begin_other, go_on, start_pass, ends_done}
+use Rattle.engine.proofs.Facts.{Codec, OffAt, Quiet, Busy, Rest, quiet, busy}
 use Rattle.engine.proofs.Course.{Course, Stop, Leads, On-course, stops, chosen}
 use Rattle.engine.proofs.Devices.{sides_apart}
-use Rattle.engine.proofs.Shares.{directory_weighs, records_on_most, records-both, either_lies, lines_few, waiting_most}
-use Rattle.engine.proofs.CompactFacts.{Untouched, SomeCarried, AllCarried, SomeBegun, AllBegun}
+use Rattle.engine.proofs.Shares.{directory_weighs, records-both, either_lies, lines_few, waiting_most}
+use Rattle.engine.proofs.CompactFacts.{Untouched, SomeCarried, SomeBegun}
 use Rattle.engine.proofs.Compact.{carry-leads, begin-leads}
 use Rattle.engine.proofs.Splices.{OnlyNew, rooms_here}
 use Rattle.engine.proofs.PutBrings.{Bringing}

@@ -7,7 +7,6 @@ use Rattle.plain.specs.Promise.{all_longer}
 use Rattle.journal.specs.Log.{Position, apply, positions}
 use Rattle.journal.specs.Room.{Carrying}
 use Rattle.journal.specs.Small.{updated, no_state}
-use Rattle.records.specs.Pages.{record_of}
 use Rattle.journal.proofs.Alike.{alike_length}
 use Rattle.journal.proofs.Lifecycle as lifecycle
 use Rattle.journal.proofs.Machine.{after_did}

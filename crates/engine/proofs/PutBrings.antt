@@ -7,7 +7,7 @@ use Rattle.plain.specs.Run.{has_room}
 use Rattle.plain.specs.Promise.{all_longer}
 use Rattle.journal.specs.Log.{Position, Splice, Rec, apply, Packed, positions, command_records, head_of, tapes}
 use Rattle.journal.specs.Small.{Small, News, updated, no_state}
-use Rattle.records.specs.Pages.{page_of, record_of}
+use Rattle.records.specs.Pages.{page_of}
 use Rattle.journal.proofs.Alike.{apply_natural}
 use Rattle.journal.proofs.Contents.{Layout}
 use Rattle.journal.proofs.Compaction.{Allowed}

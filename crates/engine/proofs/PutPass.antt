@@ -7,7 +7,7 @@ use Rattle.plain.specs.House.{Plain}
 use Rattle.plain.specs.Device.{Device, longer}
 use Rattle.plain.specs.Run.{next, put_on, has_room}
 use Rattle.plain.specs.Promise.{all_longer}
-use Rattle.journal.specs.Log.{Position, position, Rec, line, commit, state, pieces_of, parts, block, positions, command_records}
+use Rattle.journal.specs.Log.{Position, position, Rec, line, state, pieces_of, parts, block, positions, command_records}
 use Rattle.journal.specs.Small.{News}
 use Rattle.journal.specs.Machine.{did}
 use Rattle.records.specs.Pages.{page_of}

@@ -6,7 +6,7 @@ use Rattle.plain.specs.Device.{Page}
 use Rattle.plain.proofs.Basics.{In, in_left, in_right, in_cases}
 use Rattle.journal.specs.Log.{Position, Splice, Rec, commit, Source, no_entries, new_entries, copied, incoming, apply, pieces_of, parts, line_records, block, positions, command_records, head_of}
 use Rattle.journal.specs.Small.{News}
-use Rattle.records.specs.Pages.{page_of, record_of}
+use Rattle.records.specs.Pages.{page_of}
 use Rattle.journal.proofs.Replay.{length-parts}
 use Rattle.journal.proofs.Through.{length-positions}
 use Rattle.commands.specs.Kept.{fit_line, fit_lines}

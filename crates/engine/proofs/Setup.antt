@@ -7,7 +7,7 @@ use Rattle.plain.proofs.Basics.{every_append}
 use Rattle.journal.specs.Log.{set_up, settled}
 use Rattle.journal.specs.Small.{Entry, Small, small, no_state, News, news, nothing_else, pushed, updated, pushes, slots, set_up_of}
 use Rattle.journal.proofs.Small.{length-pushes, length-slots}
-use Rattle.records.specs.Pages.{page_of, record_of}
+use Rattle.records.specs.Pages.{page_of}
 use Rattle.engine.specs.Fits.{Word, words, entry_fits, SmallFits, NewsFits, RecordFits}
 use Rattle.engine.proofs.Facts.{Codec}
 

@@ -1,15 +1,14 @@
 -- The machine is sound: it wakes up, obeys and rests as the plain house does. Assumes nothing.
-use Rattle.std.proofs.Common.{◌≡◌, ℕ, zero, suc, ◌+◌, ◌-◌, ◌*◌, ◌<◌, ◌≤◌, Bool, true, false, not, ◌&&◌, eqb, ltb, leb, ◌⊎◌, List, [], ◌∷◌, ◌++◌, length, sym, refl, ap, ◌∙◌, subst, inl, inr, arith}
+use Rattle.std.proofs.Common.{◌≡◌, ℕ, ◌+◌, ◌-◌, ◌*◌, ◌≤◌, Bool, true, false, ◌&&◌, eqb, ltb, leb, List, [], ◌∷◌, length, sym, refl, ap, ◌∙◌, subst, arith}
 use Rattle.plain.specs.Pattern.{pick, or}
 use Rattle.plain.specs.Command.{Address, Range, Deed, append, insert, change, delete, join, move, copy, mark, print, number, where_is, swap, go_to, undo, redo, save, edit, load, files, bad, Simple, Command, plain, all_lines, reads}
 use Rattle.plain.specs.House.{Plain, core}
 use Rattle.plain.specs.Device.{Device, Page}
 use Rattle.plain.specs.Run.{Engine, Event, said, refusal_end, Steady}
-use Rattle.plain.specs.Promise.{May, Whole, first_plain}
+use Rattle.plain.specs.Promise.{May, Whole}
 use Rattle.journal.specs.Log.{Rec}
 use Rattle.journal.specs.Small.{News}
-use Rattle.journal.proofs.Running.{Anywhere}
-use Rattle.journal.proofs.Machine.{Goes, going, is_going, after_did, Did-it, Keeps, Idle-kept, SoundMachine, sound-engine}
+use Rattle.journal.proofs.Machine.{going, is_going, after_did, Keeps, Idle-kept, SoundMachine, sound-engine}
 use Rattle.journal.proofs.Whole.{whole}
 use Rattle.commands.specs.Kept.{Kept, kept_weight}
 use Rattle.commands.specs.Resolve.{Checked, good, refused, then, check, Bounds, bounds, base_plain, counted, resolve_plain, in_order, resolve_range, default_bounds, command_bounds, there}
@@ -23,10 +22,10 @@ use Rattle.commands.proofs.Readings.{reads_one}
 use Rattle.commands.proofs.Typed.{no_turn}
 use Rattle.engine.specs.State.{House}
 use Rattle.engine.specs.Fits.{Fits}
-use Rattle.engine.specs.Machine.{Does, machine_by, answers_by, obey, by_decision, decision, refuses}
+use Rattle.engine.specs.Machine.{machine_by, answers_by, obey, by_decision, refuses}
 use Rattle.engine.proofs.Facts.{Codec, Off, Rest, Idle}
-use Rattle.engine.proofs.Course.{Course, Stop, End, Leads, On-course, stops}
-use Rattle.engine.proofs.Courses.{course, turn-then, grant-on}
+use Rattle.engine.proofs.Course.{Course, Leads, On-course, stops}
+use Rattle.engine.proofs.Courses.{course, turn-then}
 use Rattle.engine.proofs.Fetching.{safe_rest}
 use Rattle.engine.proofs.Finish.{rest_small}
 use Rattle.engine.proofs.Weighing.{refuse_leads}

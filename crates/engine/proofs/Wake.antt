@@ -8,7 +8,6 @@ use Rattle.plain.specs.Promise.{May, first_plain}
 use Rattle.plain.specs.Run.{on, page}
 use Rattle.journal.specs.Log.{Position, Rec, state, neither, only, choose, chosen, head_of, generation, Sides, ahead, back, tapes}
 use Rattle.journal.specs.Small.{News, updated, no_state}
-use Rattle.records.specs.Pages.{record_of}
 use Rattle.journal.proofs.Running.{Asleep}
 use Rattle.journal.proofs.Machine.{Where, going, Goes, is_going, after_did, Awoke}
 use Rattle.journal.proofs.Contents.{layout_old_is}

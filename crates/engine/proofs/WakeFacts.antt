@@ -5,7 +5,6 @@ use Rattle.plain.specs.Device.{Device, Tape, tape, left, stopped, read_record}
 use Rattle.plain.specs.Promise.{May}
 use Rattle.journal.specs.Log.{Position, Rec, broken, State, state, head_of, generation, Alike, none, more, Sides, ahead, back, Packed, Tapes, tapes, replay}
 use Rattle.journal.specs.Small.{Small, News, updated, no_state}
-use Rattle.records.specs.Pages.{record_of}
 use Rattle.journal.proofs.Running.{Asleep}
 use Rattle.journal.proofs.Stops.{left_fast}
 use Rattle.journal.proofs.Contents.{reads}

@@ -6,7 +6,7 @@ use Rattle.plain.specs.Device.{Device, Page, stopped, longer, fastened, anew}
 use Rattle.plain.specs.Promise.{May}
 use Rattle.journal.specs.Log.{head, state, neither, only, choose, generation, next_generation, ahead, tapes}
 use Rattle.journal.specs.Small.{updated, no_state}
-use Rattle.records.specs.Pages.{page_of, record_of}
+use Rattle.records.specs.Pages.{page_of}
 use Rattle.journal.proofs.Running.{Asleep}
 use Rattle.journal.proofs.Machine.{Where, Goes, is_over, after_did, Awoke}
 use Rattle.journal.proofs.Contents.{Layout, wake_layout, layout-begin-old, layout-swap, layout-put-old}

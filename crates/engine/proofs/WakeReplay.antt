@@ -9,7 +9,6 @@ use Rattle.plain.specs.Promise.{May}
 use Rattle.plain.specs.Run.{page}
 use Rattle.journal.specs.Log.{Position, Rec, head, line, copy, commit, broken, State, state, intact, Intact, after, replay, replay_from, tapes}
 use Rattle.journal.specs.Small.{Small, News, updated, no_state}
-use Rattle.records.specs.Pages.{record_of}
 use Rattle.journal.proofs.Running.{Asleep}
 use Rattle.journal.proofs.Machine.{Where, going, Goes, is_over, after_did, Awoke}
 use Rattle.journal.proofs.Contents.{reads}

@@ -1,14 +1,14 @@
 -- After the walk: whether there is room, and what is brought. Assumes nothing.
-use Rattle.std.proofs.Common.{◌≡◌, ℕ, zero, suc, ◌+◌, ◌-◌, ◌*◌, ◌<◌, ◌≤◌, Bool, true, false, not, ◌&&◌, ltb, leb, ◌⊎◌, List, [], ◌∷◌, ◌++◌, length, take, drop, sym, refl, ap, ◌∙◌, subst, inl, inr, append-nil, arith, length-append}
+use Rattle.std.proofs.Common.{◌≡◌, ℕ, suc, ◌+◌, ◌*◌, ◌≤◌, Bool, true, false, ◌&&◌, ltb, ◌⊎◌, List, [], ◌∷◌, ◌++◌, length, take, drop, sym, refl, ap, ◌∙◌, subst, inl, inr, arith}
 use lib.ListN.{length-map}
 use Rattle.std.proofs.lemmas.Bool.{ltb-true}
-use Rattle.plain.specs.Pattern.{pick, every}
-use Rattle.plain.specs.Command.{Deed, Simple}
+use Rattle.plain.specs.Pattern.{pick}
+use Rattle.plain.specs.Command.{Deed}
 use Rattle.plain.specs.House.{Plain}
 use Rattle.plain.specs.Device.{Device}
 use Rattle.plain.specs.Run.{refusal_end}
-use Rattle.plain.proofs.Basics.{In, in_right, every_in}
-use Rattle.journal.specs.Log.{Source, no_entries, new_entries, copied, Splice, apply}
+use Rattle.plain.proofs.Basics.{in_right, every_in}
+use Rattle.journal.specs.Log.{apply}
 use Rattle.journal.specs.Small.{Entry, Small, News, Also, nothing_else, push, slot, updated, pushed}
 use Rattle.journal.proofs.Machine.{after_did, is_over}
 use Rattle.commands.specs.Kept.{Kept, kept_weight, lines_size, directory, fit_lines, Sound}
@@ -17,21 +17,21 @@ use Rattle.commands.specs.Plan.{Plan, Update, same_as_before, current_only, the_
 use Rattle.commands.specs.Turn as turn
 use Rattle.commands.specs.Turn.{lines_given, name_given, slot_in, walked, new_lines_of, lines_that_come, kept_after, more_rows}
 use Rattle.commands.specs.Smalls.{smalls_of, news_by, smalls_weight}
-use Rattle.commands.specs.Held.{Held, AsPlanned, SmallsWeigh}
+use Rattle.commands.specs.Held.{AsPlanned, SmallsWeigh}
 use Rattle.commands.proofs.Planned.{smalls_weigh}
 use Rattle.engine.specs.State.{House, Job, idle}
-use Rattle.engine.specs.Fits.{Fits, Word, words, entry_fits, SmallFits, NewsFits, AlsoFits, ReplayFits, PlanFits, UpdateFits}
+use Rattle.engine.specs.Fits.{Fits, Word, words, entry_fits, SmallFits, NewsFits, AlsoFits, ReplayFits, UpdateFits}
 use Rattle.engine.specs.Packing.{lines_records, packed, packs}
-use Rattle.engine.specs.Machine.{Does, came_weight, news_of, need, job_size, quota_by, quota_of, no_limit, no_room, weigh, prepare, refuses}
-use Rattle.engine.proofs.Facts.{Codec, Rest, Idle}
-use Rattle.engine.proofs.Course.{Course, Leads, On-course, ends, chosen}
-use Rattle.engine.proofs.Finish.{rest_as, rest_small, fits_as}
+use Rattle.engine.specs.Machine.{came_weight, news_of, need, job_size, quota_by, quota_of, no_room, refuses}
+use Rattle.engine.proofs.Facts.{Codec, Rest}
+use Rattle.engine.proofs.Course.{Course, Leads, On-course, ends}
+use Rattle.engine.proofs.Finish.{rest_as, fits_as}
 use Rattle.engine.proofs.PutBrings.{Bringing, packs-apply}
 use Rattle.engine.proofs.Shares.{directory_weighs}
 use Rattle.engine.proofs.Splices.{OnlyNew, lines_most}
-use Rattle.engine.proofs.Kepts.{small-fits, directory_few, kept-fits}
-use Rattle.engine.proofs.PlanSums.{JobPlan, Sourced, of_new, of_copies, size_of, cost}
-use Rattle.engine.proofs.Prepare.{From, from_new, from_copies, Sized, prepare_leads}
+use Rattle.engine.proofs.Kepts.{small-fits, kept-fits}
+use Rattle.engine.proofs.PlanSums.{JobPlan, Sourced, of_new, of_copies, size_of}
+use Rattle.engine.proofs.Prepare.{From, from_new, from_copies, Sized}
 
 -- A REFUSAL leaves all as it was
 module _ (codec : Codec) (R n : ℕ) {w : Plain} {t : List ℕ} (C : Course R w t) where

@@ -1,5 +1,5 @@
 -- What the machine's memory has to be large enough for. Assumes nothing: these are definitions.
-use Rattle.std.specs.Prelude.{◌≡◌, ℕ, zero, suc, ◌+◌, ◌*◌, ◌<◌, ◌≤◌, Bool, true, false, ◌&&◌, ltb, List, [], ◌∷◌, ◌++◌, length, nat_le, nat_lt}
+use Rattle.std.specs.Prelude.{◌≡◌, ℕ, ◌+◌, ◌<◌, ◌≤◌, Bool, true, ◌&&◌, ltb, List, [], ◌∷◌, length, nat_le, nat_lt}
 use Rattle.plain.specs.Pattern.{every, all_bytes}
 use Rattle.journal.specs.Log.{Position, Source, no_entries, new_entries, copied, Splice, Rec, head, line, copy, commit, broken, Piece, State}
 use Rattle.journal.specs.Small.{Entry, Small, Also, nothing_else, push, slot, News}

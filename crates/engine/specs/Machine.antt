@@ -1,10 +1,10 @@
 -- The machine: what it does when it is told something, one act at a time. Assumes nothing: these are definitions.
-use Rattle.std.specs.Prelude.{ℕ, suc, ◌+◌, ◌-◌, Bool, true, false, ◌&&◌, List, [], ◌∷◌, ◌++◌, length, ◌==◌, nat_lt}
-use Rattle.plain.specs.Pattern.{pick, or, eight}
+use Rattle.std.specs.Prelude.{ℕ, suc, ◌+◌, Bool, true, false, ◌&&◌, List, [], ◌∷◌, ◌++◌, length, ◌==◌, nat_lt}
+use Rattle.plain.specs.Pattern.{pick, eight}
 use Rattle.plain.specs.Command.{Simple, Command, plain, all_lines, reads}
 use Rattle.plain.specs.Device.{Page}
 use Rattle.plain.specs.Run.{Event, on, said, page, next, read, put_on, fasten, begin, shows}
-use Rattle.journal.specs.Log.{Position, Rec, head, line, state, intact, after, Piece, piece_in, head_of, Which, neither, only, choose}
+use Rattle.journal.specs.Log.{Position, Rec, head, state, intact, after, Piece, piece_in, head_of, Which, neither, only, choose}
 use Rattle.journal.specs.Small.{Small, News, updated, no_state}
 use Rattle.journal.specs.Machine.{did, Machine}
 use Rattle.engine.specs.Fits.{Fits}

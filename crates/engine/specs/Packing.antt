@@ -1,5 +1,5 @@
 -- Lines in records: a record has up to 503 bytes of a line. Assumes nothing: these are definitions.
-use Rattle.std.specs.Prelude.{ℕ, zero, suc, ◌+◌, ◌-◌, ◌*◌, List, [], ◌∷◌, ◌++◌, map, length, take, drop, ◌==◌, nat_lt}
+use Rattle.std.specs.Prelude.{ℕ, zero, suc, ◌+◌, ◌-◌, ◌*◌, List, [], ◌∷◌, map, length, take, drop, ◌==◌, nat_lt}
 use Rattle.plain.specs.Pattern.{pick, added_up}
 use Rattle.journal.specs.Log.{Position, Piece, piece, Packed}
 

@@ -2,8 +2,8 @@
 -- definitions.
 use Rattle.std.specs.Prelude.{ℕ, suc, ◌+◌, ◌-◌, ◌*◌, ◌/◌, Bool, true, false, not, ◌&&◌, List, [], ◌∷◌, ◌++◌, length, drop, ◌==◌, nat_le, nat_lt, slice_index_or, slice_set}
 use Rattle.plain.specs.Pattern.{pick, or, added_up, eight, with_length}
-use Rattle.plain.specs.Run.{on, read, put_on, fasten, begin, shows, done, refused}
-use Rattle.journal.specs.Log.{Position, position, hole, Source, no_entries, new_entries, copied, no_splice, Rec, head, line, copy, commit, State, state, after, Piece, next_generation, only}
+use Rattle.plain.specs.Run.{read, put_on, fasten, begin, shows, done, refused}
+use Rattle.journal.specs.Log.{Position, position, hole, Source, no_entries, new_entries, copied, no_splice, Rec, head, line, copy, commit, State, after, Piece, next_generation}
 use Rattle.journal.specs.Small.{Entry, entry, Small, News, news, nothing_else, updated, set_up_of}
 use Rattle.journal.specs.Machine.{Did, did}
 use Rattle.engine.specs.Packing.{records_of, lines_records, piece_of}

@@ -1,8 +1,8 @@
 -- The state of the machine, as a record of named fields. Assumes nothing: these are definitions.
-use Rattle.std.specs.Prelude.{ℕ, zero, suc, ◌+◌, ◌-◌, Bool, true, false, List, [], ◌∷◌, ◌++◌}
+use Rattle.std.specs.Prelude.{ℕ, ◌-◌, Bool, false, List, []}
 use Rattle.journal.specs.Log.{Position, State, state}
 use Rattle.journal.specs.Small.{Small, no_state}
-use Rattle.commands.specs.Plan.{Plan, Sizes, sizes, say_plan, no_row}
+use Rattle.commands.specs.Plan.{Plan, sizes, say_plan, no_row}
 
 -- what the last act was
 pub data Phase : Type 0 where

@@ -1,5 +1,5 @@
 -- Two lists that are alike entry by entry, and what keeps them so. Assumes nothing.
-use Rattle.std.proofs.Common.{◌≡◌, ℕ, zero, suc, ◌+◌, ◌-◌, ◌<◌, ◌≤◌, Bool, true, false, List, [], ◌∷◌, ◌++◌, map, length, get_or, take, drop, set, replicate, sym, refl, ap, ◌∙◌, subst, arith}
+use Rattle.std.proofs.Common.{◌≡◌, ℕ, zero, suc, ◌+◌, ◌-◌, ◌<◌, List, [], ◌∷◌, ◌++◌, map, length, get_or, take, drop, set, refl, ap, ◌∙◌, arith}
 use mathlib.Core.List.{map-append}
 use Rattle.std.proofs.lemmas.List.{take-map, drop-map}
 use Rattle.journal.specs.Log.{Source, no_entries, new_entries, copied, Splice, incoming, apply, Alike, none, more}

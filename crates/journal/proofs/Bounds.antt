@@ -1,7 +1,7 @@
 -- Every position that replaying comes upon is one of a record of that tape: so it fits into an entry of memory. And an example, by computation. Assumes nothing.
-use Rattle.std.proofs.Common.{◌≡◌, ℕ, zero, suc, ◌+◌, ◌<◌, ◌≤◌, Bool, true, false, List, [], ◌∷◌, ◌++◌, length, set, replicate, sym, refl, ap, ◌∙◌, subst, arith}
+use Rattle.std.proofs.Common.{◌≡◌, ℕ, zero, suc, ◌+◌, ◌<◌, ◌≤◌, Bool, true, false, List, [], ◌∷◌, length, replicate, refl, arith}
 use Rattle.plain.specs.Pattern.{pick}
-use Rattle.journal.specs.Log.{piece, Position, position, hole, Source, new_entries, copied, no_entries, Splice, Rec, head, line, copy, commit, broken, State, state, apply, intact, after, replay_from, replay, Alike, none, more}
+use Rattle.journal.specs.Log.{piece, Position, position, hole, new_entries, copied, Rec, head, line, copy, commit, broken, State, state, apply, intact, after, replay_from, replay, Alike, none, more}
 use Rattle.journal.proofs.Alike.{alike_append, alike_set, apply_alike}
 
 module _ (B : ℕ) (some : 0 < B) where

@@ -1,8 +1,8 @@
 -- An engine that loads a machine's memory from a list of numbers and stores it there again keeps it; and how a list is laid over the beginning of another.
 -- Assumes nothing.
-use Rattle.std.proofs.Common.{◌≡◌, ℕ, ◌≤◌, List, [], ◌∷◌, ◌++◌, length, take, drop, sym, refl, ap, ◌∙◌, subst, arith, length-append, length-drop, length-take, take_all}
+use Rattle.std.proofs.Common.{◌≡◌, ℕ, ◌≤◌, List, ◌++◌, length, drop, sym, refl, ap, ◌∙◌, subst, arith, length-append, length-drop, length-take, take_all}
 use Rattle.plain.specs.Run.{Event}
-use Rattle.journal.specs.Machine.{Did, Machine, coded, laid}
+use Rattle.journal.specs.Machine.{Machine, coded, laid}
 use Rattle.journal.proofs.Machine.{Keeps}
 
 -- what is to be shown of loading and storing: a memory loads what was stored, as far as it may be told anything; nothing is asked of other states, so that `Ok`

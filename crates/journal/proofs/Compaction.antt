@@ -1,10 +1,9 @@
 -- Two tapes, and the lines that they keep: the directory is carried from one to the other, entry by entry, while commands go on.
 -- Assumes nothing.
-use Rattle.std.proofs.Common.{◌≡◌, ℕ, zero, suc, ◌+◌, ◌-◌, ◌<◌, ◌≤◌, Bool, true, false, ◌&&◌, ◌⊎◌, List, [], ◌∷◌, ◌++◌, map, length, get_or, take, drop, set, replicate, sym, refl, ap, ◌∙◌, subst, inl, inr, append_assoc, append-nil, arith}
-use Rattle.plain.specs.Pattern.{pick, every}
-use Rattle.journal.specs.Log.{Position, position, hole, Splice, Rec, head, line, copy, commit, broken, State, state, apply, replay, replay_from, Piece, no_piece, Packed, pieces_of, line_records, copy_records, block, positions, command_records, settled, begin_records, Left, LinesOnly, Alike, none, more, Holds, On, Intact}
+use Rattle.std.proofs.Common.{◌≡◌, ℕ, suc, ◌+◌, ◌<◌, ◌≤◌, ◌⊎◌, List, [], ◌∷◌, ◌++◌, length, get_or, take, set, replicate, sym, refl, ap, ◌∙◌, subst, inl, inr, append-nil, arith}
+use Rattle.journal.specs.Log.{Position, position, hole, Splice, Rec, commit, apply, Packed, pieces_of, copy_records, positions, command_records, settled, begin_records, Left, Alike, none, more, Holds, On}
 use Rattle.journal.proofs.Alike.{alike_length, alike_set, alike_set_left, apply_alike, alike_map, length-apply}
-use Rattle.journal.proofs.Stored.{holds_more, holds_new, pieces-copies, length-copies, on-more, positions_hold, lines-block, left_command, left_behind, Shows, Open, Ready, ready_shows, ready_open, open_ready, ready_begin, ready_copy, ready_command, lines_unseen, broken_unseen}
+use Rattle.journal.proofs.Stored.{holds_new, pieces-copies, length-copies, on-more, positions_hold, lines-block, left_command, left_behind, Shows, Open, Ready, ready_shows, ready_open, open_ready, ready_begin, ready_copy, ready_command, lines_unseen}
 use Rattle.journal.proofs.Through.{length-positions, AllThrough, through_left, through_command, through_copy, through_begin}
 
 -- an entry of the new tape's directory beside that of the directory in memory

@@ -1,8 +1,8 @@
 -- Two tapes of the device, as records that have been read: what the acts make of them, and what a stop leaves. Nothing of what the records mean.
 -- Assumes nothing.
-use Rattle.std.proofs.Common.{◌≡◌, ℕ, zero, suc, ◌+◌, ◌-◌, ◌<◌, ◌≤◌, Bool, true, false, ◌&&◌, eqb, List, [], ◌∷◌, ◌++◌, map, length, get_or, take, drop, sym, refl, ap, ◌∙◌, subst, append_assoc, append-nil, arith, length-append, length-drop, take-append-drop, length-take}
+use Rattle.std.proofs.Common.{◌≡◌, ℕ, zero, suc, ◌-◌, ◌≤◌, Bool, true, false, eqb, List, [], ◌∷◌, ◌++◌, map, length, get_or, take, drop, sym, refl, ap, ◌∙◌, subst, append_assoc, append-nil, arith, length-append, length-drop, take-append-drop, length-take}
 use mathlib.Core.List.{map-append}
-use Rattle.plain.specs.Pattern.{pick, every}
+use Rattle.plain.specs.Pattern.{pick}
 use Rattle.plain.specs.Device.{Device, Page, Tape, tape, lesser, half, left, stopped, so_many_of, tape_of, with_tape, read_record, nth_record, longer, fastened, anew}
 use Rattle.plain.proofs.Stops.{surviving, left_split}
 use Rattle.journal.specs.Log.{Rec, broken, Left, gone, torn, kept, Sides, ahead, back, Tapes, tapes, halved}

@@ -1,6 +1,6 @@
 -- Which of the two tapes counts, by the heads that they begin with: the older one, or the only one. Assumes nothing.
-use Rattle.std.proofs.Common.{◌≡◌, ℕ, zero, suc, ◌⊎◌, List, [], ◌∷◌, ◌++◌, sym, refl, ap, ◌∙◌, subst, inl, inr, arith}
-use Rattle.journal.specs.Log.{Rec, Left, gone, torn, kept, generation, next_generation, Which, neither, only, choose, chosen, Newer, InCycle, cycle_1, cycle_2, cycle_3, Sides, ahead, back}
+use Rattle.std.proofs.Common.{◌≡◌, ℕ, ◌⊎◌, List, [], ◌∷◌, ◌++◌, refl, inl, inr, arith}
+use Rattle.journal.specs.Log.{Rec, Left, gone, torn, kept, generation, next_generation, only, choose, chosen, Newer, InCycle, cycle_1, cycle_2, cycle_3, Sides, ahead, back}
 
 pub cycle_next : {g : ℕ} → InCycle g → InCycle (next_generation g)
 cycle_next cycle_1 = cycle_2

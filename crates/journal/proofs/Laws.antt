@@ -1,16 +1,16 @@
 -- The laws of the log, for its own records. Assumes nothing.
-use Rattle.std.proofs.Common.{◌≡◌, ℕ, zero, suc, ◌+◌, ◌-◌, ◌*◌, ◌<◌, ◌≤◌, true, ◌⊎◌, List, [], ◌∷◌, ◌++◌, map, length, get_or, take, drop, sym, refl, ap, ◌∙◌, subst, inl, inr, append_assoc, arith}
-use Rattle.plain.specs.Device.{Device, Page, Tape, tape_of, stopped}
+use Rattle.std.proofs.Common.{◌≡◌, ℕ, suc, ◌+◌, ◌-◌, ◌⊎◌, List, [], ◌∷◌, ◌++◌, map, length, take, drop, sym, refl, ap, ◌∙◌, subst, inl, inr, append_assoc, arith}
+use Rattle.plain.specs.Device.{Device, Tape, tape_of, stopped}
 use Rattle.plain.specs.Promise.{all_longer}
-use Rattle.journal.specs.Log.{Position, hole, Splice, Rec, commit, broken, State, state, Packed, replay, copy_records, command_records, settled, begin_records, Alike, On, Left, generation, InCycle, Newer, Which, only, chosen, Sides, tapes, halved}
+use Rattle.journal.specs.Log.{Position, Splice, commit, State, state, Packed, copy_records, command_records, settled, begin_records, Alike, On, Left, generation, InCycle, Newer, tapes}
 use Rattle.journal.specs.Small.{Small, News, updated, set_up_of, no_state}
 use Rattle.journal.specs.Room.{Carrying}
-use Rattle.journal.specs.Laws.{Log, replayed, Same, Settled, ApplyNatural, TornTailUnseen, CommitAllAtOnce, StoppedAt, StopKeepsState, Compaction, begun, carried, commanded, TakenOver, CompactionKeepsLines, NoFullTape, WithinGrant}
+use Rattle.journal.specs.Laws.{Log, replayed, Same, Settled, ApplyNatural, TornTailUnseen, CommitAllAtOnce, StopKeepsState, Compaction, begun, carried, commanded, CompactionKeepsLines, NoFullTape, WithinGrant}
 use Rattle.journal.proofs.Alike.{apply_natural, alike_length}
 use Rattle.journal.proofs.Replay.{replay_from-append, replay_from-broken, replay_from-lines}
-use Rattle.journal.proofs.Stored.{Open, Ready, Shows, open_ready, ready_command, ready_open, lines_unseen, lines-block, left_command}
-use Rattle.journal.proofs.Through.{AllThrough, Through, last, then}
-use Rattle.journal.proofs.Contents.{Layout, Left-layout, all_fast, some_fast, layout_new_is, layout_stops-at, left_so_far}
+use Rattle.journal.proofs.Stored.{Open, Ready, open_ready, ready_command, lines_unseen, lines-block, left_command}
+use Rattle.journal.proofs.Through.{Through, last, then}
+use Rattle.journal.proofs.Contents.{Layout, all_fast, some_fast, layout_new_is, layout_stops-at, left_so_far}
 use Rattle.journal.proofs.Lifecycle.{layout_all_old, layout_all_new}
 use Rattle.journal.proofs.Generations.{generation-append, left_newer, old_counts}
 use Rattle.journal.proofs.Compaction.{Allowed, Tape-keeps, keeps_command, Compacting, compaction_begins, compaction_carries, compaction_commands, compaction_ends}

@@ -1,10 +1,10 @@
 -- The log on two tapes as a machine above uses it: active on one tape, or copying to the other meanwhile; how each act leads from one to the other; and that
 -- whatever is stopped keeps its lines. Assumes nothing.
-use Rattle.std.proofs.Common.{◌≡◌, ℕ, zero, suc, ◌+◌, ◌<◌, ◌≤◌, Bool, true, false, ◌⊎◌, List, [], ◌∷◌, ◌++◌, map, length, get_or, take, set, sym, refl, ap, ◌∙◌, subst, inl, inr, append_assoc, append-nil, arith, length-append}
+use Rattle.std.proofs.Common.{◌≡◌, ℕ, ◌+◌, ◌<◌, Bool, true, false, ◌⊎◌, List, [], ◌∷◌, ◌++◌, map, length, get_or, take, set, sym, refl, ap, ◌∙◌, subst, inl, inr, append_assoc, append-nil, arith, length-append}
 use lib.ListN.{length-map}
 use Rattle.plain.specs.Device.{Device, Page, stopped, read_record, longer, fastened, anew}
 use Rattle.plain.specs.Promise.{all_longer}
-use Rattle.journal.specs.Log.{Position, position, hole, Splice, Rec, head, broken, apply, Piece, no_piece, Packed, pieces_of, piece_in, copy_records, positions, command_records, settled, begin_records, head_of, generation, next_generation, Which, neither, only, choose, chosen, On, Newer, InCycle, cycle_1, Sides, ahead, back, Tapes, tapes, halved}
+use Rattle.journal.specs.Log.{Position, position, hole, Splice, Rec, head, broken, apply, no_piece, Packed, pieces_of, piece_in, copy_records, positions, command_records, settled, begin_records, head_of, generation, next_generation, neither, only, choose, chosen, On, Newer, InCycle, cycle_1, tapes, halved}
 use Rattle.std.proofs.lemmas.Bool.{false≢true}
 use Rattle.journal.proofs.Alike.{alike_at}
 use Rattle.journal.proofs.Stored.{Open, holds_read}

@@ -1,11 +1,11 @@
 -- A machine whose memory is of any type, as a record of named fields: its runs, and that an engine which keeps that memory in a list of numbers runs as it
 -- does. Assumes nothing.
-use Rattle.std.proofs.Common.{◌≡◌, ℕ, suc, ◌<◌, Bool, true, false, ltb, List, [], ◌∷◌, ◌++◌, length, sym, refl, ap, ◌∙◌, subst}
+use Rattle.std.proofs.Common.{◌≡◌, ℕ, suc, Bool, true, false, ltb, List, [], ◌∷◌, ◌++◌, length, sym, refl, subst}
 use Rattle.plain.specs.Pattern.{pick}
 use Rattle.plain.specs.Device.{Device, Page, read_record, longer, fastened, anew, stopped}
 use Rattle.plain.specs.Run.{Event, on, said, page, next, Act, read, put_on, fasten, begin, shows, done, refused, Engine, World, on_device, has_room, refusal_end, Item, proper, Right}
 use Rattle.journal.specs.Machine.{Did, did, Machine}
-use Rattle.journal.proofs.Running.{Outcome, goes_on, ended, acted, told, Then, at_end, at-act, weaker, Torn, Finished, Awake, Asleep, Anywhere, Sound, right-off, picked_true}
+use Rattle.journal.proofs.Running.{Outcome, goes_on, ended, acted, told, Then, at_end, at-act, weaker, Asleep, Anywhere, Sound, right-off, picked_true}
 
 pub data Where (X : Type 0) : Type 0 where
   going : X → Device → Event → List (List ℕ) → ℕ → Where X

@@ -1,12 +1,10 @@
 -- The log on the device: what it holds without power, and that a stop at any act leaves what was there before the command, or what is there after it.
 -- Assumes nothing.
-use Rattle.std.proofs.Common.{◌≡◌, ℕ, zero, suc, ◌+◌, ◌-◌, ◌<◌, ◌≤◌, Bool, true, false, ◌&&◌, eqb, ◌⊎◌, List, [], ◌∷◌, ◌++◌, map, length, get_or, take, drop, set, replicate, sym, refl, ap, ◌∙◌, subst, inl, inr, append_assoc, append-nil, arith, length-append, length-take}
-use mathlib.Core.List.{map-append}
-use Rattle.plain.specs.Pattern.{pick, every}
+use Rattle.std.proofs.Common.{◌≡◌, ℕ, ◌⊎◌, List, [], ◌++◌, sym, refl, ap, ◌∙◌, subst, inl, inr, append-nil}
 use Rattle.plain.specs.Device.{Device, Page, stopped}
-use Rattle.journal.specs.Log.{Position, position, hole, Splice, Rec, head, line, copy, commit, broken, State, state, apply, replay, replay_from, Packed, command_records, begin_records, Left, gone, torn, kept, generation, next_generation, Which, neither, only, choose, chosen, Alike, none, more, On, Newer, InCycle, cycle_1, cycle_2, cycle_3, Sides, ahead, back, Tapes, tapes, halved}
-use Rattle.journal.proofs.Stored.{Shows, Open, left_behind}
-use Rattle.journal.proofs.Through.{Through, last, then}
+use Rattle.journal.specs.Log.{Position, Splice, Rec, broken, apply, replay_from, Packed, command_records, begin_records, Left, gone, torn, kept, generation, neither, only, choose, chosen, none, Newer, InCycle, cycle_1, Sides, ahead, back, Tapes, tapes, halved}
+use Rattle.journal.proofs.Stored.{Open, left_behind}
+use Rattle.journal.proofs.Through.{last, then}
 use Rattle.journal.proofs.Contents.{left_so_far, Layout, layout_stops-at}
 use Rattle.journal.proofs.Compaction.{Allowed, Tape-keeps, keeps_stop}
 use Rattle.journal.proofs.Generations.{left_newer, generation-append, old_counts}

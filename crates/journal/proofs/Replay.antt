@@ -1,8 +1,8 @@
 -- What replaying a tape gives: records put on behind others, a record that isn't whole, lines that no commit follows, and a command. Assumes nothing.
-use Rattle.std.proofs.Common.{◌≡◌, ℕ, zero, suc, ◌+◌, ◌-◌, ◌<◌, ◌≤◌, Bool, true, false, ◌&&◌, ◌⊎◌, List, [], ◌∷◌, ◌++◌, map, length, get_or, take, drop, set, replicate, sym, refl, ap, ◌∙◌, subst, inl, inr, append_assoc, append-nil, add-zero, arith, length-append}
-use Rattle.std.proofs.lemmas.Bool.{and_parts, false≢true}
+use Rattle.std.proofs.Common.{◌≡◌, ℕ, zero, suc, ◌+◌, List, [], ◌∷◌, ◌++◌, map, length, sym, refl, ap, ◌∙◌, subst, append_assoc, append-nil, add-zero, arith}
+use Rattle.std.proofs.lemmas.Bool.{and_parts}
 use Rattle.plain.specs.Pattern.{pick, every}
-use Rattle.journal.specs.Log.{Position, position, hole, Splice, Rec, head, line, copy, commit, broken, State, state, apply, intact, after, replay_from, replay, Piece, no_piece, Packed, pieces_of, parts, copies, line_records, copy_records, block, positions, command_records, set_up, settled, begin_records, Left, gone, torn, kept, LinesOnly, no_more, a_line, a_broken, Intact}
+use Rattle.journal.specs.Log.{Position, position, Rec, line, broken, State, state, apply, intact, after, replay_from, Piece, Packed, parts, copies, block, positions, set_up, settled, LinesOnly, no_more, a_line, a_broken, Intact}
 
 abbrev pub with_pending : {S : Type 0} → State S → List Position → State S
 with_pending s P = state s.dir P s.small

@@ -1,5 +1,5 @@
 -- That neither tape ever gets full: beginning to carry, going on, and ending keep the bounds. Assumes nothing.
-use Rattle.std.proofs.Common.{◌≡◌, ℕ, zero, suc, ◌+◌, ◌-◌, ◌*◌, ◌<◌, ◌≤◌, ◌⊎◌, inl, inr, arith}
+use Rattle.std.proofs.Common.{ℕ, ◌+◌, ◌-◌, ◌*◌, ◌<◌, ◌≤◌, arith}
 use Rattle.journal.specs.Room.{Rooms, Carrying}
 
 pub carrying-begins : {R T m n J : ℕ} (V : ℕ) → m ≤ T → n ≤ 130 → J ≤ V → 64 * V ≤ 32 * R → Carrying R T m n 0 0 J

@@ -1,11 +1,11 @@
 -- The records that begin a tape set the small state up: the stand weights, oldest first, the files that there are, the text's numbers. Assumes nothing.
-use Rattle.std.proofs.Common.{◌≡◌, ℕ, zero, suc, ◌+◌, ◌<◌, ◌≤◌, ◌⊎◌, List, [], ◌∷◌, ◌++◌, length, take, drop, sym, refl, ap, ◌∙◌, subst, inl, inr, append_assoc, append-nil, arith, length-append, take_all}
+use Rattle.std.proofs.Common.{◌≡◌, ℕ, zero, suc, ◌+◌, ◌≤◌, List, [], ◌∷◌, ◌++◌, length, take, drop, sym, refl, ap, ◌∙◌, subst, inl, inr, append_assoc, append-nil, arith, length-append, take_all}
 use lib.ListN.{length-map}
 use Rattle.std.proofs.lemmas.List.{drop_all}
 use Rattle.std.proofs.lemmas.Bool.{lt-ltb}
 use Rattle.plain.proofs.Basics.{In, in_cases}
-use Rattle.journal.specs.Log.{settled, set_up, begin_records}
-use Rattle.journal.specs.Small.{Entry, Small, small, no_state, Also, nothing_else, push, slot, News, news, pushed, updated, pushes, slots, set_up_of}
+use Rattle.journal.specs.Log.{settled, begin_records}
+use Rattle.journal.specs.Small.{Entry, Small, small, no_state, nothing_else, push, slot, News, news, pushed, updated, pushes, slots, set_up_of}
 
 settled-append : {K S : Type 0} (upd : K → S → S) (s : S) (us vs : List K) → settled upd s (us ++ vs) ≡ settled upd (settled upd s us) vs
 unfolding settled

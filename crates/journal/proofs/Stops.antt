@@ -1,8 +1,8 @@
 -- What a stop leaves of a tape. Assumes nothing.
-use Rattle.std.proofs.Common.{◌≡◌, ℕ, zero, suc, ◌+◌, ◌-◌, ◌<◌, ◌≤◌, Bool, true, false, eqb, ltb, ◌⊎◌, List, [], ◌∷◌, ◌++◌, length, take, drop, sym, refl, ap, ◌∙◌, subst, inl, inr, append-nil, arith, length-append, le-ltb}
-use lib.Seq.{take-append-add, drop-append-add, take-nil, drop-nil}
+use Rattle.std.proofs.Common.{◌≡◌, ℕ, zero, suc, Bool, true, false, eqb, ltb, ◌⊎◌, List, [], ◌∷◌, ◌++◌, sym, refl, ap, ◌∙◌, subst, inl, inr, append-nil, arith, le-ltb}
+use lib.Seq.{take-nil, drop-nil}
 use Rattle.plain.specs.Pattern.{pick}
-use Rattle.plain.specs.Device.{Device, Page, Tape, tape, lesser, half, left, stopped, so_many_of}
+use Rattle.plain.specs.Device.{Page, tape, lesser, half, left}
 use Rattle.plain.proofs.Stops.{surviving, left_split}
 use Rattle.journal.specs.Log.{halved}
 

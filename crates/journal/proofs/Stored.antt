@@ -1,12 +1,11 @@
 -- Tapes that only grow: which line lies where, what replaying gives after each thing that is put on, and what a stop leaves of a command.
 -- Assumes nothing.
-use Rattle.std.proofs.Common.{◌≡◌, ℕ, zero, suc, ◌+◌, ◌-◌, ◌<◌, ◌≤◌, Bool, true, false, ◌&&◌, ◌⊎◌, List, [], ◌∷◌, ◌++◌, map, length, get_or, take, drop, set, replicate, sym, refl, ap, ◌∙◌, subst, inl, inr, append_assoc, append-nil, zero-add, arith, length-append, length-drop, get_or-drop, get_or-take, take_at}
+use Rattle.std.proofs.Common.{◌≡◌, ℕ, suc, ◌+◌, ◌<◌, ◌≤◌, true, ◌⊎◌, List, [], ◌∷◌, ◌++◌, map, length, get_or, take, drop, set, replicate, sym, refl, ap, ◌∙◌, subst, inl, inr, append_assoc, zero-add, arith, length-append, length-drop, get_or-drop, get_or-take, take_at}
 use lib.ListN.{get_or-map}
 use lib.Seq.{take-append-le, drop-append-le, drop-append_seam}
-use Rattle.plain.specs.Pattern.{pick, every}
-use Rattle.journal.specs.Log.{Position, position, hole, Splice, Rec, head, line, copy, commit, broken, State, state, apply, intact, after, replay_from, replay, Piece, no_piece, Packed, pieces_of, piece_in, stored, parts, copies, line_records, copy_records, block, positions, command_records, settled, begin_records, Left, gone, torn, kept, LinesOnly, no_more, a_line, a_broken, Alike, none, more, Holds, On, Intact}
-use Rattle.journal.proofs.Alike.{alike_map}
-use Rattle.journal.proofs.Replay.{with_pending, committed, intact-append, intact-copies, intact-block, intact-set_up, length-parts, replay_from-append, replay_from-broken, replay_from-lines, replay_from-copies, replay_from-block, replay_from-set_up}
+use Rattle.plain.specs.Pattern.{pick}
+use Rattle.journal.specs.Log.{Position, position, hole, Splice, Rec, line, commit, broken, State, state, apply, intact, after, replay_from, replay, Piece, no_piece, Packed, pieces_of, piece_in, stored, parts, copies, line_records, copy_records, block, positions, command_records, settled, begin_records, Left, gone, torn, kept, LinesOnly, no_more, a_line, a_broken, Alike, none, more, Holds, On, Intact}
+use Rattle.journal.proofs.Replay.{intact-append, intact-copies, intact-block, intact-set_up, length-parts, replay_from-append, replay_from-broken, replay_from-lines, replay_from-copies, replay_from-block, replay_from-set_up}
 
 pub pieces-parts : (K : Type 0) (j : ℕ) (bs : List Piece) → map piece_in (parts {K = K} j bs) ≡ bs
 unfolding parts

@@ -1,11 +1,11 @@
 -- Whatever holds of the state at each record of a tape, as that it fits into memory, while it is replayed from the first on: how it comes to
 -- hold, and that a stop keeps it. Assumes nothing.
-use Rattle.std.proofs.Common.{◌≡◌, ℕ, zero, suc, ◌+◌, ◌-◌, ◌<◌, ◌≤◌, Bool, true, false, ◌&&◌, ◌⊎◌, List, [], ◌∷◌, ◌++◌, map, length, get_or, take, drop, set, replicate, sym, refl, ap, ◌∙◌, subst, inl, inr, append_assoc, append-nil, add-zero, zero-add, arith, length-append, length-set}
+use Rattle.std.proofs.Common.{◌≡◌, ℕ, suc, ◌+◌, ◌≤◌, List, [], ◌∷◌, ◌++◌, map, length, take, set, replicate, sym, refl, ap, subst, add-zero, zero-add, arith, length-append, length-set}
 use lib.ListN.{length-replicate}
 use Rattle.std.proofs.lemmas.Bool.{and_parts}
 use Rattle.plain.specs.Pattern.{pick, every}
-use Rattle.journal.specs.Log.{Position, position, hole, Splice, Rec, head, line, copy, commit, broken, State, state, apply, intact, after, replay_from, replay, Piece, Packed, parts, copies, copy_records, block, positions, command_records, set_up, settled, begin_records, Left, gone, torn, kept, Intact}
-use Rattle.journal.proofs.Replay.{intact-block, intact-parts, replay_from-append, replay_from-block, replay_from-parts}
+use Rattle.journal.specs.Log.{Position, position, hole, Splice, Rec, commit, State, state, apply, intact, after, replay_from, replay, Piece, Packed, parts, copies, copy_records, block, positions, command_records, set_up, settled, begin_records, Left, gone, torn, kept, Intact}
+use Rattle.journal.proofs.Replay.{intact-block, intact-parts, replay_from-block, replay_from-parts}
 use Rattle.journal.proofs.Stored.{Ready}
 
 pub length-positions : (t k : ℕ) (ls : List Packed) → length (positions t k ls) ≡ length ls

@@ -1,9 +1,9 @@
 -- Entries of the directory that still lie on the old tape: how many, and a cursor before which there are none. Assumes nothing.
-use Rattle.std.proofs.Common.{◌≡◌, ℕ, zero, suc, ◌+◌, ◌-◌, ◌<◌, ◌≤◌, Bool, true, false, eqb, ◌⊎◌, List, [], ◌∷◌, ◌++◌, length, get_or, take, drop, set, sym, refl, ap, ◌∙◌, subst, inl, inr, arith, length-append, length-set, take-append-drop, length-take, get_or-set_other, get_or-take, get_or-set_same, drop-drop}
+use Rattle.std.proofs.Common.{◌≡◌, ℕ, zero, suc, ◌+◌, ◌<◌, ◌≤◌, eqb, List, [], ◌∷◌, ◌++◌, length, get_or, take, drop, set, sym, refl, ap, ◌∙◌, subst, inl, inr, arith, take-append-drop, length-take, get_or-set_other, get_or-take, get_or-set_same, drop-drop}
 use lib.ListN.{get_or-append}
 use Rattle.std.proofs.lemmas.Bool.{eq-eqb, ne_eqb, cases_eq}
 use Rattle.plain.specs.Pattern.{pick}
-use Rattle.journal.specs.Log.{Position, position, hole, Source, no_entries, new_entries, copied, Splice, incoming, apply, Piece, no_piece, Packed, pieces_of, positions}
+use Rattle.journal.specs.Log.{Position, position, hole, Splice, incoming, apply, Packed, pieces_of, positions}
 
 unfoldable pub waiting : ℕ → List Position → ℕ
 waiting x [] = 0

@@ -1,8 +1,8 @@
 -- What is shown of the log: each statement is the contract of a function of this crate. Assumes nothing.
-use Rattle.std.specs.Prelude.{◌≡◌, ℕ, ◌+◌, ◌-◌, ◌*◌, ◌<◌, ◌≤◌, true, ◌⊎◌, List, [], ◌∷◌, ◌++◌, map, length, get_or, ◌≢◌, slice_index_or, slice_set}
+use Rattle.std.specs.Prelude.{◌≡◌, ℕ, ◌+◌, ◌-◌, ◌*◌, ◌<◌, ◌≤◌, ◌⊎◌, List, [], ◌∷◌, ◌++◌, map, length, get_or, ◌≢◌, slice_index_or, slice_set}
 use Rattle.plain.specs.Device.{Device, Page, tape_of, stopped}
 use Rattle.plain.specs.Promise.{all_longer}
-use Rattle.journal.specs.Log.{Position, position, hole, Splice, Rec, broken, State, state, apply, Intact, replay, Packed, copy_records, positions, command_records, begin_records, On, Alike, LinesOnly, Left, generation, next_generation, InCycle, Newer, Which, only, chosen, Sides, tapes, halved}
+use Rattle.journal.specs.Log.{Position, position, hole, Splice, Rec, broken, State, state, apply, Intact, replay, Packed, copy_records, positions, command_records, begin_records, On, Alike, LinesOnly, Left, generation, InCycle, Newer, only, chosen, Sides, tapes, halved}
 use Rattle.journal.specs.Small.{Small, News, updated, set_up_of, no_state}
 use Rattle.journal.specs.Room.{Rooms, Carrying}
 

@@ -1,5 +1,5 @@
 -- A machine whose memory is a record of named fields, and the engine that keeps that memory in a list of numbers. Assumes nothing: these are definitions.
-use Rattle.std.specs.Prelude.{ℕ, List, [], ◌∷◌, ◌++◌, length, take, drop}
+use Rattle.std.specs.Prelude.{ℕ, List, ◌++◌, length, take, drop}
 use Rattle.plain.specs.Run.{Event, Act, Engine}
 
 pub record Did (X : Type 0) : Type 0 where

@@ -1,6 +1,6 @@
 -- The small state that a commit record sets beside the directory: the text's count of lines, current line and weight, the weights of stands, and the table of
 -- files; and the commit records that set it up on a new tape. Assumes nothing: these are definitions.
-use Rattle.std.specs.Prelude.{ℕ, zero, suc, List, [], ◌∷◌, ◌++◌, length, take, drop, nat_lt}
+use Rattle.std.specs.Prelude.{ℕ, suc, List, [], ◌∷◌, ◌++◌, length, take, drop, nat_lt}
 use Rattle.plain.specs.Pattern.{pick}
 
 -- of a file its name, how many lines it has, and what these weigh

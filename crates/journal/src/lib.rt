@@ -1,5 +1,7 @@
 //! The log on two tapes: what replaying records gives, what a stop leaves of them, how what is needed is carried to the other tape, and how an engine above it is
 //! run beside the plain house. Each law is the contract of a function that does nothing.
+#![tactic(auto)]
+
 ghost use Rattle.std.specs.Prelude.{◌≡◌, ◌==◌};
 ghost use Rattle.journal.specs.Log.{choose, next_generation};
 ghost use Rattle.journal.specs.Tapes.{which_of};

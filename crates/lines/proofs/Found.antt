@@ -1,9 +1,7 @@
 -- The first entry of a tape.
-use Rattle.std.proofs.Common.{◌≡◌, ℕ, zero, suc, ◌+◌, ◌-◌, ◌/◌, ◌^◌, ◌<◌, ◌≤◌, Bool, true, false, eqb, List, [], ◌∷◌, length, get_or, take, drop, sym, refl, ap, ◌∙◌, add-one, arith, eq-eqb, ne_eqb, eqb-true}
+use Rattle.std.proofs.Common.{◌≡◌, ℕ, zero, suc, ◌+◌, ◌-◌, ◌/◌, ◌^◌, ◌<◌, ◌≤◌, List, [], ◌∷◌, length, get_or, take, add-one, arith, eq-eqb, ne_eqb}
 use Rattle.lines.specs.Slots.{first_on, next_on}
-use Rattle.plain.specs.Pattern.{pick}
-use Rattle.std.proofs.lemmas.List.{get_or-take, get_or-drop, length-take, length-drop, drop_more, drop_all}
-use borrow.Author.Tests.{eqb-false}
+use Rattle.std.proofs.lemmas.List.{get_or-take, length-take, drop_more, drop_all}
 
 -- where it is looked for further: the entry at i is of another tape
 pub next_past : (t i to : ℕ) (xs : List ℕ) → i < to → i < length xs → (get_or xs i 0 / 2 ^ 20 ≡ t → ⊥) → next_on t i to xs ≡ next_on t (i + 1) to xs

@@ -1,9 +1,9 @@
 -- Entries put in place of others: the list after it, place by place.
-use Rattle.std.proofs.Common.{◌≡◌, ℕ, suc, ◌+◌, ◌-◌, ◌<◌, ◌≤◌, ◌⊎◌, List, [], ◌∷◌, ◌++◌, map, length, get_or, take, drop, set, sym, refl, ap, ◌∙◌, inl, inr, add-zero, arith, take-append-drop}
-use Rattle.lines.specs.Moves.{Splices, Duplicates, laid, spliced, copied, edited}
+use Rattle.std.proofs.Common.{◌≡◌, ℕ, ◌+◌, ◌-◌, ◌<◌, ◌≤◌, List, [], ◌∷◌, ◌++◌, map, length, get_or, take, drop, set, sym, ap, ◌∙◌, add-zero, arith, take-append-drop}
+use Rattle.lines.specs.Moves.{Splices, spliced, copied, edited}
 use Rattle.lines.specs.Slots.{entry}
 use Rattle.lines.proofs.Copies.{length-copied, copied_outside, copied-within}
-use Rattle.std.proofs.lemmas.List.{places, same_lists, get_or_default, get_or-set_same, get_or-set_other, get_or-take, get_or-drop, length-set, length-append, length-take, length-drop, length-map, length-take-le, take_more, take_all, take_at, drop_at, drop-drop, map-append}
+use Rattle.std.proofs.lemmas.List.{places, same_lists, get_or-set_same, get_or-set_other, get_or-take, get_or-drop, length-set, length-append, length-take, length-drop, length-map, length-take-le, take_more, take_all, take_at, drop_at, drop-drop, map-append}
 use Rattle.std.proofs.lemmas.Bool.{cases_eq}
 
 -- new ones in place of q from p on

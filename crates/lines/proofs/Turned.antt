@@ -1,7 +1,7 @@
 -- Lists that are reversed and rotated in part.
-use Rattle.std.proofs.Common.{◌≡◌, ℕ, ◌+◌, ◌-◌, ◌<◌, ◌≤◌, ◌⊎◌, List, [], ◌∷◌, ◌++◌, reverse, length, get_or, take, drop, set, sym, refl, ap, ◌∙◌, inl, inr, arith, rules}
+use Rattle.std.proofs.Common.{◌≡◌, ℕ, ◌+◌, ◌-◌, ◌<◌, ◌≤◌, ◌⊎◌, List, length, get_or, sym, ◌∙◌, arith, rules}
 use Rattle.lines.specs.Moves.{swapped, reversed, rotated}
-use Rattle.std.proofs.lemmas.List.{places, same_lists, get_or_default, get_or-drop, get_or-set_same, get_or-set_other, length-set, length-reverse, length-append, length-take, length-drop}
+use Rattle.std.proofs.lemmas.List.{places, same_lists, get_or_default, get_or-set_same, get_or-set_other, length-set, length-reverse, length-append, length-take, length-drop}
 use Rattle.std.proofs.lemmas.Bool.{cases_eq}
 
 -- the exchange of two entries, place by place

@@ -1,7 +1,6 @@
 -- Words by their entries and top bits: these are all of them.
-use Rattle.std.proofs.Common.{◌≡◌, ℕ, zero, suc, ◌+◌, ◌-◌, ◌*◌, ◌/◌, ◌%◌, ◌^◌, ◌<◌, ◌≤◌, Bool, true, false, ◌&&◌, ltb, List, [], ◌∷◌, length, get_or, take, drop, sym, refl, ap, ◌∙◌, arith, lt-ltb}
+use Rattle.std.proofs.Common.{◌≡◌, ℕ, suc, ◌+◌, ◌*◌, ◌/◌, ◌^◌, ◌<◌, true, ltb, List, [], ◌∷◌, length, get_or, drop, sym, refl, ap, ◌∙◌, arith, lt-ltb}
 use Rattle.lines.specs.Slots.{entry, field, slots, spares, with_slots}
-use Rattle.std.proofs.lemmas.List.{length-drop}
 use Rattle.plain.specs.Pattern.{every}
 use Rattle.plain.specs.Run.{all_small}
 use Rattle.std.proofs.lemmas.Bool.{and_parts, and_from, ltb-true}

@@ -1,5 +1,6 @@
 //! The directory of lines: an entry for each line says on which tape and from which record on it is. It lies in lent words,
 //! three entries of 21 bits in each. Of `count` entries in use a splice or a copy says how many there are then; what stands behind those is free.
+#![tactic(auto)]
 
 mod entries;
 mod find;

@@ -1,19 +1,19 @@
 -- What a splice of the directory in the memory means. Assumes nothing.
-use Rattle.std.proofs.Common.{◌≡◌, ℕ, zero, suc, ◌+◌, ◌-◌, ◌*◌, ◌<◌, ◌≤◌, min, Bool, true, false, ◌&&◌, leb, ◌⊎◌, List, [], ◌∷◌, ◌++◌, map, length, take, drop, sym, refl, ap, ◌∙◌, subst, inl, inr, arith}
-use Rattle.std.proofs.lemmas.List.{length-take, length-drop, length-append, length-map, map-append, take-map, drop-map, take-take, take_at, drop-take}
+use Rattle.std.proofs.Common.{◌≡◌, ℕ, ◌+◌, ◌-◌, ◌≤◌, Bool, true, false, leb, List, [], ◌∷◌, ◌++◌, map, length, take, drop, sym, refl, ap, ◌∙◌, subst, inl, inr, arith}
+use Rattle.std.proofs.lemmas.List.{length-take, length-drop, length-map, map-append, take-map, drop-map, take-take, take_at, drop-take}
 use Rattle.std.proofs.lemmas.Bool.{and_parts, leb-true}
 use Rattle.plain.specs.Pattern.{pick}
 use Rattle.journal.specs.Log.{Source, no_entries, new_entries, copied, splice, apply}
-use Rattle.lines.specs.Slots.{slots, with_slots}
+use Rattle.lines.specs.Slots.{with_slots}
 use Rattle.lines.specs.Moves.{spliced, edited, Splices, Duplicates}
 use Rattle.lines.proofs.Splices.{length_spliced, length-edited}
 use Rattle.lines.proofs.Words as words
-use Rattle.memory.specs.Sections.{words_in, cells_in, with_words, entries_in, with_entries, high, pending_entries, can_splice, can_put, can_copy, with_splice, pending_spliced, nothing_spliced, copied_spliced}
+use Rattle.memory.specs.Sections.{words_in, cells_in, entries_in, with_entries, high, pending_entries, can_splice, can_put, can_copy, with_splice, pending_spliced, nothing_spliced, copied_spliced}
 use Rattle.memory.specs.Abstract.{position_of, pending_at, dir_of, pending_of}
 use Rattle.memory.specs.Commit.{can_by, came_by, spliced_by}
 use Rattle.memory.proofs.Frames.{BesideDir, beside_words}
 use Rattle.memory.proofs.Entries.{Whole, whole-slots, whole-high, whole_take, whole_drop, whole-edited}
-use Rattle.memory.proofs.Splicing.{words_long, cells_long, entries-long, entries_with, long_with, can_there, copy-there}
+use Rattle.memory.proofs.Splicing.{words_long, cells_long, entries-long, entries_with, can_there, copy-there}
 use Rattle.memory.proofs.Committing.{pick_yes}
 
 -- entries spliced, as positions

@@ -1,14 +1,14 @@
 -- A commit applied, step by step. Assumes nothing.
-use Rattle.std.proofs.Common.{◌≡◌, ℕ, ◌+◌, ◌-◌, Bool, true, false, ◌&&◌, List, [], Some, None, Option, sym, refl, ap, ◌∙◌, arith}
+use Rattle.std.proofs.Common.{◌≡◌, ℕ, ◌+◌, ◌-◌, Bool, true, false, List, Some, None, Option, sym, refl, ap, ◌∙◌, arith}
 use Rattle.std.proofs.lemmas.Bool.{and_left, and_right, and_from}
 use Rattle.plain.specs.Pattern.{pick}
 use Rattle.journal.specs.Log.{Source, no_entries, new_entries, copied, Splice}
-use Rattle.journal.specs.Small.{Also, News}
+use Rattle.journal.specs.Small.{News}
 use Rattle.commands.specs.Code.{when}
 use Rattle.memory.specs.declared.kept.Kept.{Kept}
 use Rattle.memory.specs.declared.commit.Counts.{Counts}
-use Rattle.memory.specs.Sections.{with_splice, can_splice, can_put, can_copy, pending_spliced, nothing_spliced, copied_spliced}
-use Rattle.memory.specs.Commit.{can_by, came_by, spliced_by, can_note, counts_of, counts_by, noted_by, can_apply, kept_after, applied}
+use Rattle.memory.specs.Sections.{pending_spliced, nothing_spliced, copied_spliced}
+use Rattle.memory.specs.Commit.{can_by, came_by, spliced_by, can_note, counts_by, noted_by, can_apply, kept_after, applied}
 
 pub when_none : (b : Bool) (n : ℕ) → None ≡ when b n → b ≡ false
 when_none true n e = let z : ◌≡◌ {A = ℕ} 0 1 = ap (λ o. elim o [ Some x ↦ 1 | None ↦ 0 ]) e in absurd (omega arith)

@@ -1,11 +1,10 @@
 -- Sums over the lines of a text, one line after the other. Assumes nothing.
-use Rattle.std.proofs.Common.{◌≡◌, ℕ, zero, suc, ◌+◌, ◌-◌, ◌*◌, ◌<◌, ◌≤◌, min, Bool, true, false, ltb, List, [], ◌∷◌, length, take, drop, sym, refl, ap, ◌∙◌, subst, mul-add, arith}
+use Rattle.std.proofs.Common.{◌≡◌, ℕ, suc, ◌+◌, ◌-◌, ◌*◌, ◌<◌, ◌≤◌, Bool, true, false, ltb, List, length, take, drop, sym, refl, ap, ◌∙◌, subst, mul-add, arith}
 use Rattle.std.proofs.lemmas.List.{length-take, length-drop}
-use Rattle.std.proofs.lemmas.Bool.{ltb-true, both_ways}
+use Rattle.std.proofs.lemmas.Bool.{ltb-true}
 use Rattle.plain.specs.Pattern.{pick, added_up}
 use Rattle.engine.specs.Packing.{records_of}
 use Rattle.memory.specs.declared.job.Lines.{Lines}
-use Rattle.memory.specs.declared.job.Lines.TheVariants.{Nothing, Given, Joined}
 use Rattle.memory.specs.Abstract.{job_lines, left_of, line_end, some_lines}
 use Rattle.memory.proofs.Worded.{Ends, line-ends, left_first, left_start}
 

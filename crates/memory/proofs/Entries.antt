@@ -1,11 +1,9 @@
 -- Entries of the directory, as the memory has them. Assumes nothing.
-use Rattle.std.proofs.Common.{◌≡◌, ℕ, zero, suc, ◌+◌, ◌-◌, ◌*◌, ◌/◌, ◌%◌, ◌^◌, ◌<◌, ◌≤◌, min, List, [], ◌∷◌, ◌++◌, map, length, get_or, take, drop, set, replicate, sym, refl, ap, ◌∙◌, mod-eq_of_lt, arith}
-use Rattle.std.proofs.lemmas.List.{length-take, length-drop, length-append, length-map, get_or-take, get_or_past, map-append, take-map, drop-map, nil_from_length}
-use Rattle.lines.specs.Slots.{entry, field, slots, spares, with_slots}
+use Rattle.std.proofs.Common.{◌≡◌, ℕ, ◌+◌, ◌*◌, ◌/◌, ◌%◌, ◌^◌, ◌<◌, ◌≤◌, List, [], ◌∷◌, ◌++◌, map, length, get_or, take, drop, sym, refl, ap, ◌∙◌, arith}
+use Rattle.std.proofs.lemmas.List.{length-take, get_or-take, get_or_past, map-append, take-map, drop-map, nil_from_length}
+use Rattle.lines.specs.Slots.{entry, field, slots, with_slots}
 use Rattle.lines.specs.Moves.{spliced, edited}
-use Rattle.memory.specs.declared.directory.Position.{Position}
-use Rattle.memory.specs.Registers.{part, with_part}
-use Rattle.memory.specs.Sections.{words_in, entries_in, entry_position, entry_at, high}
+use Rattle.memory.specs.Sections.{entries_in, entry_position, entry_at, high}
 
 pub entry-there : (n i : ℕ) (m : List ℕ) → i < n → entry_position (get_or (entries_in m) i 0) ≡ entry_at n i m
 unfolding entry_at

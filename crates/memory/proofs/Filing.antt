@@ -1,18 +1,16 @@
 -- The table of files. Assumes nothing.
-use Rattle.std.proofs.Common.{◌≡◌, ℕ, zero, suc, ◌+◌, ◌-◌, ◌*◌, ◌%◌, ◌<◌, ◌≤◌, min, Bool, true, false, ◌&&◌, eqb, ltb, leb, List, [], ◌∷◌, ◌++◌, map, length, get_or, take, drop, set, sym, refl, ap, ◌∙◌, append_assoc, add-one, arith}
-use Rattle.std.proofs.lemmas.List.{length-take, length-drop, length-append, length-map, length-take-le, take-take, take_at, drop_at, set_at, map_more, take_all, drop_all, drop-drop, drop_more, append-nil}
-use Rattle.std.proofs.lemmas.Bool.{lt-ltb, le-ltb, le-leb, lt-leb, eqb-true, ne_eqb, eq-eqb, and_right, and_left}
+use Rattle.std.proofs.Common.{◌≡◌, ℕ, zero, suc, ◌+◌, ◌-◌, ◌*◌, ◌%◌, ◌<◌, ◌≤◌, true, false, ◌&&◌, eqb, ltb, leb, List, [], ◌∷◌, ◌++◌, map, length, get_or, take, drop, set, sym, refl, ap, ◌∙◌, append_assoc, add-one, arith}
+use Rattle.std.proofs.lemmas.List.{length-take, length-drop, length-map, length-take-le, set_at, map_more, take_all, drop_all, drop-drop, drop_more, append-nil}
+use Rattle.std.proofs.lemmas.Bool.{lt-ltb, le-ltb, le-leb, lt-leb, ne_eqb, eq-eqb, and_right}
 use Rattle.plain.specs.Pattern.{pick, added_up, same}
 use Rattle.plain.specs.Device.{lesser}
 use Rattle.plain.proofs.Basics.{added_append}
-use Rattle.journal.specs.Small.{Entry, entry}
-use Rattle.commands.specs.Plan.{look_up, slot_of, Slot}
-use Rattle.commands.specs.Smalls.{entry_size}
+use Rattle.journal.specs.Small.{Entry}
+use Rattle.commands.specs.Plan.{look_up, slot_of}
 use Rattle.memory.specs.Numbers.{capped}
 use Rattle.memory.specs.Registers.{part, with_part}
-use Rattle.memory.specs.Sections.{low, files_in, name_in, with_files, with_name, over, name_kept, file_numbers, with_file, can_file, file_count, file_set}
+use Rattle.memory.specs.Sections.{low, over, file_numbers, can_file}
 use Rattle.memory.specs.Abstract.{file_at, file_head, files_at}
-use Rattle.memory.proofs.Parted as parted
 
 -- BYTES OVER THE FRONT of a section
 pub laid_more : (bs s t : List ℕ) (i : ℕ) → i < length bs → length bs ≤ length s → t ≡ map low (take i bs) ++ drop i s

@@ -1,10 +1,10 @@
 -- What a change of one section leaves as it was. Assumes nothing.
-use Rattle.std.proofs.Common.{◌≡◌, ℕ, zero, suc, ◌+◌, ◌-◌, ◌*◌, ◌/◌, ◌%◌, ◌<◌, ◌≤◌, List, [], ◌∷◌, ◌++◌, map, length, get_or, take, drop, set, sym, refl, ap, ◌∙◌, arith, lit≤}
-use Rattle.std.proofs.lemmas.List.{take-map, length-map}
+use Rattle.std.proofs.Common.{◌≡◌, ℕ, List, [], ◌∷◌, map, length, take, sym, refl, ap, ◌∙◌, arith, lit≤}
+use Rattle.std.proofs.lemmas.List.{take-map}
 use Rattle.lines.specs.Slots.{slots}
 use Rattle.memory.specs.declared.registers.Registers.{Registers}
 use Rattle.memory.specs.Numbers.{capped}
-use Rattle.memory.specs.Registers.{part, with_part, stored}
+use Rattle.memory.specs.Registers.{stored}
 use Rattle.memory.specs.Sections.{ring_in, files_in, name_in, cells_in, words_in, with_ring, with_files, with_name, with_cells, with_words, low, high}
 use Rattle.memory.specs.Abstract.{position_of, pending_at, dir_of, pending_of, ring_of, files_at, files_of, text_of, name_of}
 use Rattle.memory.proofs.Parted as parted

@@ -1,14 +1,14 @@
 -- The state that registers and memory stand for, as a whole. Assumes nothing.
-use Rattle.std.proofs.Common.{◌≡◌, ℕ, List, [], length, drop, replicate, sym, refl, ap, ◌∙◌}
-use Rattle.journal.specs.Log.{State, state}
-use Rattle.journal.specs.Small.{Small, small}
+use Rattle.std.proofs.Common.{◌≡◌, ℕ, List, drop, replicate, refl, ap, ◌∙◌}
+use Rattle.journal.specs.Log.{state}
+use Rattle.journal.specs.Small.{small}
 use Rattle.commands.specs.Code.{plan_as}
-use Rattle.engine.specs.State.{House, house, starting, walking_of, putting_of}
+use Rattle.engine.specs.State.{house, starting, walking_of, putting_of}
 use Rattle.memory.specs.declared.kept.Kept.{Kept}
 use Rattle.memory.specs.declared.registers.Registers.{Registers}
 use Rattle.memory.specs.Numbers.{phase_of}
 use Rattle.memory.specs.Registers.{loaded, stored, Tame}
-use Rattle.memory.specs.Abstract.{phase_as, tapes_as, carrying_as, dir_of, pending_of, ring_of, files_at, files_of, store_of, text_of, name_of, job_lines, left_of, house_of}
+use Rattle.memory.specs.Abstract.{phase_as, tapes_as, carrying_as, dir_of, pending_of, ring_of, files_at, store_of, text_of, name_of, job_lines, left_of, house_of}
 use Rattle.memory.proofs.Frames.{BesideAll, beside_stored}
 use Rattle.memory.proofs.Storing.{load_store}
 

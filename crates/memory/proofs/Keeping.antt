@@ -1,6 +1,6 @@
 -- Every function keeps the memory's length, and its numbers below 2^64, whatever the memory holds. Assumes nothing.
-use Rattle.std.proofs.Common.{◌≡◌, ℕ, zero, suc, ◌+◌, ◌-◌, ◌*◌, ◌/◌, ◌%◌, ◌^◌, ◌<◌, ◌≤◌, min, Bool, true, false, ◌&&◌, ltb, leb, List, [], ◌∷◌, ◌++◌, map, length, get_or, take, drop, set, replicate, sym, refl, ap, ◌∙◌, subst, arith}
-use Rattle.std.proofs.lemmas.List.{length-take, length-drop, length-append, length-map, length-set, length-replicate}
+use Rattle.std.proofs.Common.{◌≡◌, ℕ, zero, suc, ◌+◌, ◌-◌, ◌*◌, ◌/◌, ◌%◌, ◌^◌, ◌<◌, ◌≤◌, Bool, true, false, ltb, leb, List, [], ◌∷◌, ◌++◌, map, length, get_or, take, drop, set, replicate, sym, refl, ap, ◌∙◌, subst, arith}
+use Rattle.std.proofs.lemmas.List.{length-take, length-drop, length-append, length-map, length-replicate}
 use Rattle.std.proofs.lemmas.Bool.{and_from, and_parts, lt-ltb, ltb-true, leb-true}
 use Rattle.plain.specs.Pattern.{pick}
 use Rattle.plain.specs.Device.{lesser}
@@ -15,9 +15,9 @@ use Rattle.lines.proofs.Words as words
 use Rattle.memory.specs.declared.kept.Kept as numbers_kept
 use Rattle.memory.specs.declared.directory.Position.{Position}
 use Rattle.memory.specs.Numbers.{capped}
-use Rattle.memory.specs.Registers.{part, with_part}
-use Rattle.memory.specs.Sections.{ring_in, files_in, name_in, cells_in, words_in, with_ring, with_files, with_name, with_cells, with_words, packed_position, entries_in, with_entry, cleared, with_entries, low, with_low, with_high, pending_entries, with_pending, laid_low, can_splice, can_put, can_copy, with_splice, pending_spliced, nothing_spliced, copied_spliced, ring_pushed, with_weight, over, name_kept, file_numbers, with_file, can_file, file_set, extended}
-use Rattle.memory.specs.Commit.{can_by, spliced_by, noted_by, can_apply, applied}
+use Rattle.memory.specs.Registers.{part}
+use Rattle.memory.specs.Sections.{ring_in, files_in, name_in, cells_in, words_in, packed_position, entries_in, with_entry, cleared, with_entries, low, with_low, pending_entries, with_pending, laid_low, can_splice, can_put, can_copy, with_splice, pending_spliced, nothing_spliced, copied_spliced, ring_pushed, with_weight, over, name_kept, file_numbers, with_file, can_file, file_set, extended}
+use Rattle.memory.specs.Commit.{spliced_by, noted_by, can_apply, applied}
 use Rattle.memory.proofs.Parted as parted
 use Rattle.memory.proofs.Splicing.{words_long, cells_long}
 use Rattle.memory.proofs.Texting.{length-laid}

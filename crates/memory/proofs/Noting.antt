@@ -1,18 +1,18 @@
 -- What the functions on the ring, the files and names mean. Assumes nothing.
-use Rattle.std.proofs.Common.{◌≡◌, ℕ, zero, suc, ◌+◌, ◌-◌, ◌*◌, ◌%◌, ◌<◌, ◌≤◌, min, Bool, true, false, ◌&&◌, ltb, leb, ◌⊎◌, List, [], ◌∷◌, ◌++◌, map, length, get_or, take, drop, set, sym, refl, ap, ◌∙◌, subst, inl, inr, append_assoc, mod-eq_of_lt, add-one, arith}
-use Rattle.std.proofs.lemmas.List.{length-take, length-drop, length-append, length-map, length-set, map-append, drop-map, take-map, take_all, take_at, drop_at, drop_all, take_more, take-set, take-take, get_or-set_same, drop-drop, append-nil, take-append-le, drop-take, drop-append-le}
+use Rattle.std.proofs.Common.{◌≡◌, ℕ, zero, suc, ◌+◌, ◌*◌, ◌%◌, ◌<◌, ◌≤◌, true, ltb, leb, List, [], ◌∷◌, ◌++◌, map, length, take, drop, set, sym, refl, ap, ◌∙◌, subst, inl, inr, mod-eq_of_lt, add-one, arith}
+use Rattle.std.proofs.lemmas.List.{length-take, length-drop, length-append, length-map, length-set, map-append, drop-map, take_all, take_at, drop_at, drop_all, take_more, take-set, get_or-set_same, drop-drop, drop-take, drop-append-le}
 use Rattle.std.proofs.lemmas.Bool.{lt-ltb, le-ltb, le-leb, and_parts, ltb-true, leb-true, cases_lt}
-use Rattle.plain.specs.Pattern.{pick, every, all_bytes}
+use Rattle.plain.specs.Pattern.{all_bytes}
 use Rattle.plain.specs.Device.{lesser}
-use Rattle.journal.specs.Small.{Entry, entry, pushed}
+use Rattle.journal.specs.Small.{entry, pushed}
 use Rattle.memory.specs.Numbers.{capped}
 use Rattle.memory.specs.Registers.{part, with_part}
-use Rattle.memory.specs.Sections.{low, ring_in, files_in, name_in, with_ring, with_files, with_name, ring_count, ring_pushed, with_weight, over, name_kept, file_numbers, with_file, can_file, file_count, file_set}
+use Rattle.memory.specs.Sections.{low, ring_in, files_in, name_in, with_name, ring_count, ring_pushed, with_weight, over, name_kept, file_numbers, with_file, can_file, file_count, file_set}
 use Rattle.memory.specs.Abstract.{ring_of, file_at, files_at, files_of, name_of}
 use Rattle.memory.proofs.Parted as parted
 use Rattle.memory.proofs.Frames.{BesideRing, BesideFiles, BesideName, beside_weights, beside_table, beside_bytes}
 use Rattle.memory.proofs.Weighing.{ring_long}
-use Rattle.memory.proofs.Filing.{length-files, files-more, files_from, file_there}
+use Rattle.memory.proofs.Filing.{length-files, files-more}
 use Rattle.memory.proofs.Committing.{pick_yes, pick_no}
 
 -- bytes are their own low bytes

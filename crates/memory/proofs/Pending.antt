@@ -1,8 +1,8 @@
 -- Pending lines, as the memory has them. Assumes nothing.
-use Rattle.std.proofs.Common.{◌≡◌, ℕ, zero, suc, ◌+◌, ◌-◌, ◌*◌, ◌/◌, ◌%◌, ◌^◌, ◌<◌, ◌≤◌, List, [], ◌∷◌, ◌++◌, map, length, get_or, take, drop, set, sym, refl, ap, ◌∙◌, arith}
+use Rattle.std.proofs.Common.{◌≡◌, ℕ, ◌≤◌, List, length, ap, ◌∙◌, arith}
 use Rattle.std.proofs.lemmas.List.{set_past}
 use Rattle.memory.specs.declared.directory.Position.{Position}
-use Rattle.memory.specs.Sections.{cells_in, with_cells, with_pending, with_high, packed_position}
+use Rattle.memory.specs.Sections.{cells_in, with_cells, with_pending}
 use Rattle.memory.proofs.Parted as parted
 use Rattle.memory.proofs.Splicing.{cells_long}
 

@@ -1,7 +1,6 @@
 -- What the functions on the directory and on pending lines mean. Assumes nothing.
-use Rattle.std.proofs.Common.{◌≡◌, ℕ, zero, suc, ◌+◌, ◌-◌, ◌*◌, ◌/◌, ◌%◌, ◌^◌, ◌<◌, ◌≤◌, min, Bool, true, false, eqb, ◌⊎◌, List, [], ◌∷◌, ◌++◌, map, length, get_or, take, drop, set, replicate, sym, refl, ap, ◌∙◌, subst, inl, inr, arith}
-use Rattle.std.proofs.lemmas.List.{length-take, length-drop, length-append, length-map, length-set, length-replicate, map-set, map-append, take-map, drop-map, take-replicate, take-take, take_at, take-set-le, drop-take, get_or-map, get_or_past, take_more, get_or-set_same, take-set, map_push, get_or_default, drop-drop}
-use Rattle.std.proofs.lemmas.Bool.{cases_lt}
+use Rattle.std.proofs.Common.{◌≡◌, ℕ, zero, suc, ◌+◌, ◌*◌, ◌/◌, ◌%◌, ◌^◌, ◌<◌, ◌≤◌, eqb, List, [], ◌∷◌, ◌++◌, map, length, get_or, take, drop, set, replicate, sym, refl, ap, ◌∙◌, arith}
+use Rattle.std.proofs.lemmas.List.{length-set, length-replicate, map-set, map-append, drop-map, take-replicate, take_more, get_or-set_same, take-set}
 use Rattle.plain.specs.Pattern.{pick}
 use Rattle.journal.specs.Log.{hole, position}
 use Rattle.journal.specs.Log as log
@@ -9,17 +8,13 @@ use Rattle.engine.specs.Machine as engine
 use Rattle.engine.specs.Fits.{PositionFits}
 use Rattle.lines.specs.Slots as packed
 use Rattle.lines.specs.Slots.{entry, slots, with_slots}
-use Rattle.lines.specs.Moves.{spliced, edited, Splices}
-use Rattle.lines.proofs.Packing.{slots-stored, length-slots}
-use Rattle.lines.proofs.Splices.{length_spliced, length-edited}
+use Rattle.lines.proofs.Packing.{slots-stored}
 use Rattle.memory.specs.declared.directory.Position.{Position}
-use Rattle.memory.specs.Registers.{part, with_part}
-use Rattle.memory.specs.Sections.{words_in, cells_in, with_words, with_cells, packed_position, entry_position, entries_in, entry_at, next_at, with_entry, cleared, with_entries, low, high, with_high, pending_entries, with_pending, with_splice}
+use Rattle.memory.specs.Sections.{words_in, cells_in, packed_position, entries_in, entry_at, next_at, with_entry, cleared, low, high, with_high, with_pending}
 use Rattle.memory.specs.Abstract.{position_of, pending_at, dir_of, pending_of}
 use Rattle.memory.proofs.Parted as parted
 use Rattle.memory.proofs.Frames.{BesideDir, BesidePending, beside_words, beside-high}
-use Rattle.memory.proofs.Entries.{Whole, whole-slots, whole-high, whole-edited, slots_with}
-use Rattle.memory.proofs.Splicing.{words_long, cells_long, entries-long, entries_with}
+use Rattle.memory.proofs.Splicing.{words_long, cells_long}
 
 -- which position of the definitions a position of the code is
 abbrev pub position_as : Position → log.Position

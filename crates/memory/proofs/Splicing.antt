@@ -1,7 +1,7 @@
 -- Splices of the directory in the memory. Assumes nothing.
-use Rattle.std.proofs.Common.{◌≡◌, ℕ, zero, suc, ◌+◌, ◌-◌, ◌*◌, ◌/◌, ◌%◌, ◌^◌, ◌<◌, ◌≤◌, min, Bool, true, false, ◌&&◌, ltb, leb, ◌⊎◌, List, [], ◌∷◌, ◌++◌, map, length, get_or, take, drop, set, Some, None, Option, sym, refl, ap, ◌∙◌, subst, inl, inr, arith, lit≤}
-use Rattle.std.proofs.lemmas.List.{length-take, length-drop, length-append, length-map, length-set, get_or-take, get_or_past, get_or-map, map_more, set_past}
-use Rattle.std.proofs.lemmas.Bool.{le-leb, leb-true, lt-leb, and_from, and_parts, or_parts, both_ways, lt-ltb, le-ltb}
+use Rattle.std.proofs.Common.{◌≡◌, ℕ, ◌+◌, ◌-◌, ◌*◌, ◌/◌, ◌<◌, ◌≤◌, Bool, true, false, ◌&&◌, leb, List, [], ◌∷◌, ◌++◌, map, length, get_or, take, set, Some, None, Option, sym, refl, ap, ◌∙◌, subst, inl, inr, arith, lit≤}
+use Rattle.std.proofs.lemmas.List.{length-take, length-map, map_more}
+use Rattle.std.proofs.lemmas.Bool.{le-leb, leb-true, lt-leb, and_from, and_parts, both_ways}
 use Rattle.plain.specs.Pattern.{pick, or}
 use Rattle.plain.proofs.Basics.{or_true}
 use Rattle.commands.specs.Code.{when}
@@ -11,8 +11,7 @@ use Rattle.lines.proofs.Packing.{length-slots}
 use Rattle.lines.proofs.Words.{words_are, with_spares, length_with}
 use Rattle.lines.proofs.Words as words
 use Rattle.lines.proofs.Splices.{length_spliced, filled_none, filled_one, splice_is}
-use Rattle.memory.specs.Registers.{part, with_part}
-use Rattle.memory.specs.Sections.{words_in, cells_in, entries_in, with_words, with_cells, with_entries, high, with_high, pending_entries, pending_filled, with_splice, can_splice, can_put, can_copy, pending_spliced, nothing_spliced, copied_spliced}
+use Rattle.memory.specs.Sections.{words_in, cells_in, entries_in, with_words, with_entries, high, pending_entries, pending_filled, with_splice, can_splice, can_put, can_copy}
 use Rattle.memory.proofs.Parted as parted
 use Rattle.memory.proofs.Entries.{Whole, whole-slots, whole-high, whole_spliced, slots_with}
 

@@ -1,17 +1,17 @@
 -- What a commit that is applied to the memory means, and what the memory stands for at the start. Assumes nothing.
-use Rattle.std.proofs.Common.{◌≡◌, ℕ, zero, suc, ◌+◌, ◌-◌, ◌*◌, ◌<◌, ◌≤◌, Bool, true, false, ◌&&◌, ltb, leb, List, [], ◌∷◌, ◌++◌, map, length, get_or, take, drop, replicate, sym, refl, ap, ◌∙◌, arith}
+use Rattle.std.proofs.Common.{◌≡◌, ℕ, ◌+◌, ◌-◌, ◌*◌, ◌<◌, ◌≤◌, true, ◌&&◌, ltb, leb, List, [], length, get_or, sym, refl, ap, ◌∙◌, arith}
 use Rattle.std.proofs.lemmas.List.{get_or-drop}
-use Rattle.std.proofs.lemmas.Bool.{and_parts, ltb-true, leb-true}
-use Rattle.plain.specs.Pattern.{pick, all_bytes}
-use Rattle.journal.specs.Log.{Splice, State, state, commit, after}
-use Rattle.journal.specs.Small.{Entry, entry, Also, nothing_else, push, slot, News, ring_by, files_by, updated}
+use Rattle.std.proofs.lemmas.Bool.{and_parts, ltb-true}
+use Rattle.plain.specs.Pattern.{all_bytes}
+use Rattle.journal.specs.Log.{Splice, state, commit, after}
+use Rattle.journal.specs.Small.{Entry, Also, nothing_else, push, slot, News, ring_by, files_by, updated}
 use Rattle.engine.specs.Fits.{AlsoFits}
 use Rattle.memory.specs.declared.kept.Kept.{Kept}
 use Rattle.memory.specs.Registers.{part, TameKept}
 use Rattle.memory.specs.Sections.{files_in, can_file, file_count}
-use Rattle.memory.specs.Abstract.{dir_of, pending_of, ring_of, file_at, files_at, files_of, small_of, store_of, text_of, name_of}
+use Rattle.memory.specs.Abstract.{pending_of, ring_of, file_at, files_of, store_of, text_of, name_of}
 use Rattle.memory.specs.Commit.{can_by, came_by, spliced_by, can_note, counts_by, noted_by, can_apply, kept_after, applied}
-use Rattle.memory.proofs.Frames.{SameDir, SamePending, SameText, SameName}
+use Rattle.memory.proofs.Frames.{SameDir, SameText, SameName}
 use Rattle.memory.proofs.Filing.{file_there}
 use Rattle.memory.proofs.Noting.{beside_weight, weight_means, beside_set, set-means}
 use Rattle.memory.proofs.Applying.{spliced_means, beside_spliced}

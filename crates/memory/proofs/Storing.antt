@@ -1,5 +1,5 @@
 -- Registers as they are stored part by part, and as they are loaded again. Assumes nothing.
-use Rattle.std.proofs.Common.{◌≡◌, ℕ, zero, suc, ◌+◌, ◌-◌, ◌%◌, ◌<◌, ◌≤◌, Bool, true, false, eqb, List, [], ◌∷◌, ◌++◌, length, get_or, take, drop, set, sym, refl, ap, ◌∙◌, mod-eq_of_lt, arith, lit<}
+use Rattle.std.proofs.Common.{◌≡◌, ℕ, zero, suc, ◌+◌, ◌-◌, ◌%◌, ◌<◌, ◌≤◌, Bool, true, false, eqb, List, [], ◌∷◌, ◌++◌, length, get_or, drop, set, sym, refl, ap, ◌∙◌, mod-eq_of_lt, arith, lit<}
 use Rattle.std.proofs.lemmas.List.{drop-drop, drop_all, get_or_past, append-nil}
 use Rattle.plain.specs.Pattern.{pick}
 use Rattle.commands.specs.declared.plan.Plan.{Plan}
@@ -23,7 +23,7 @@ use Rattle.memory.specs.declared.walking.Putting.{Putting}
 use Rattle.memory.specs.declared.carrying.Carrying.{Carrying}
 use Rattle.memory.specs.declared.registers.Registers.{Registers}
 use Rattle.memory.specs.Numbers.{capped, flag, phases, phase_of, phase_number, walk_of, walk_number, update_of, update_kind, update_place, rows_of, rows_kind, rows_value, source_of, source_kind, source_from, source_to, lines_of, lines_number}
-use Rattle.memory.specs.Registers.{part, with_part, tapes_in, kept_in, plan_in, job_in, walking_in, putting_in, carrying_in, loaded, tapes_numbers, kept_numbers, plan_numbers, job_numbers, walking_numbers, putting_numbers, carrying_numbers, numbers, stored, Word, TameTapes, TameKept, TameUpdate, TameRows, TameSource, TamePlan, TameJob, TameWalking, TamePutting, TameCarrying, Tame}
+use Rattle.memory.specs.Registers.{part, with_part, tapes_in, kept_in, plan_in, job_in, walking_in, putting_in, carrying_in, loaded, tapes_numbers, kept_numbers, plan_numbers, job_numbers, walking_numbers, putting_numbers, carrying_numbers, numbers, stored, TameTapes, TameKept, TameUpdate, TameRows, TameSource, TamePlan, TameJob, TameWalking, TamePutting, TameCarrying, Tame}
 
 -- numbers past the last phase
 pub phase_else : (n : ℕ) → (1 ≤ n → 20 ≤ n) → Idle ≡ phase_of n

@@ -1,12 +1,10 @@
 -- Text in the cells. Assumes nothing.
-use Rattle.std.proofs.Common.{◌≡◌, ℕ, zero, suc, ◌+◌, ◌-◌, ◌*◌, ◌/◌, ◌%◌, ◌<◌, ◌≤◌, min, Bool, true, false, ◌&&◌, eqb, ltb, leb, List, [], ◌∷◌, ◌++◌, map, length, get_or, take, drop, set, sym, refl, ap, ◌∙◌, append_assoc, add-one, arith}
-use Rattle.std.proofs.lemmas.List.{length-take, length-drop, length-append, length-map, take_all, drop_all, drop_more, get_or-map, append-nil}
+use Rattle.std.proofs.Common.{◌≡◌, ℕ, zero, suc, ◌+◌, ◌<◌, ◌≤◌, List, [], ◌∷◌, ◌++◌, map, length, get_or, take, drop, set, sym, refl, ap, ◌∙◌, add-one, arith}
+use Rattle.std.proofs.lemmas.List.{length-take, length-drop, length-map, drop_all, drop_more, get_or-map}
 use Rattle.std.proofs.lemmas.Bool.{eq-eqb, ne_eqb}
 use Rattle.plain.specs.Pattern.{pick}
-use Rattle.memory.specs.Registers.{part, with_part}
-use Rattle.memory.specs.Sections.{low, high, with_low, cells_in, with_cells, laid_low, extended, newline, over}
+use Rattle.memory.specs.Sections.{low, with_low, cells_in, laid_low, newline}
 use Rattle.memory.specs.Abstract.{text_of}
-use Rattle.memory.proofs.Parted as parted
 use Rattle.memory.proofs.Splicing.{cells_long}
 
 -- BYTES OVER THE LOW BYTES of cells

@@ -1,13 +1,12 @@
 -- The ring, and sums over it. Assumes nothing.
-use Rattle.std.proofs.Common.{◌≡◌, ℕ, zero, suc, ◌+◌, ◌-◌, ◌*◌, ◌%◌, ◌<◌, ◌≤◌, min, Bool, true, false, ltb, leb, List, [], ◌∷◌, ◌++◌, map, length, get_or, take, drop, set, sym, refl, ap, ◌∙◌, arith}
-use Rattle.std.proofs.lemmas.List.{length-take, length-drop, length-map, take-take, set_at, map_more, get_or-map, get_or-take, get_or-drop}
+use Rattle.std.proofs.Common.{◌≡◌, ℕ, zero, suc, ◌+◌, ◌<◌, ◌≤◌, List, [], ◌∷◌, ◌++◌, map, length, get_or, take, drop, set, sym, refl, ap, ◌∙◌, arith}
+use Rattle.std.proofs.lemmas.List.{length-take, length-map, take-take, set_at, map_more, get_or-map, get_or-take}
 use Rattle.std.proofs.lemmas.Bool.{lt-ltb, le-ltb}
-use Rattle.plain.specs.Pattern.{pick, added_up}
+use Rattle.plain.specs.Pattern.{pick}
 use Rattle.plain.proofs.Basics.{added_append}
 use Rattle.commands.specs.Kept.{sum}
 use Rattle.commands.specs.Smalls.{oldest}
 use Rattle.memory.specs.Numbers.{capped}
-use Rattle.memory.specs.Registers.{part, with_part}
 use Rattle.memory.specs.Sections.{ring_in, ring_pushed, ring_count}
 use Rattle.memory.specs.Abstract.{ring_of}
 use Rattle.memory.proofs.Parted as parted

@@ -1,18 +1,17 @@
 -- What text in the cells means, and the lines that are left of it. Assumes nothing.
-use Rattle.std.proofs.Common.{◌≡◌, ℕ, zero, suc, ◌+◌, ◌-◌, ◌*◌, ◌/◌, ◌%◌, ◌<◌, ◌≤◌, min, Bool, true, false, ◌&&◌, eqb, ltb, leb, ◌⊎◌, List, [], ◌∷◌, ◌++◌, map, length, get_or, take, drop, set, sym, refl, ap, ◌∙◌, inl, inr, append_assoc, mod-eq_of_lt, add-one, arith}
-use Rattle.std.proofs.lemmas.List.{length-take, length-drop, length-append, length-map, map-append, take-map, drop-map, take-take, take_all, drop_all, drop-drop, drop-take, take-append-drop, append-nil}
+use Rattle.std.proofs.Common.{◌≡◌, ℕ, suc, ◌+◌, ◌-◌, ◌/◌, ◌%◌, ◌≤◌, Bool, true, false, eqb, ltb, leb, List, [], ◌∷◌, ◌++◌, map, length, take, drop, sym, refl, ap, ◌∙◌, inl, inr, append_assoc, arith}
+use Rattle.std.proofs.lemmas.List.{length-take, length-drop, length-append, map-append, take-map, drop-map, take-take, take_all, drop-drop, drop-take, take-append-drop, append-nil}
 use Rattle.std.proofs.lemmas.Bool.{le-leb, le-ltb, lt-ltb, ltb-true, and_parts, cases_lt}
 use Rattle.plain.specs.Pattern.{pick, all_bytes}
 use Rattle.plain.specs.Command.{lines_of}
 use Rattle.memory.specs.declared.job.Lines.{Lines}
 use Rattle.memory.specs.declared.job.Lines.TheVariants.{Nothing, Given, Joined}
-use Rattle.memory.specs.Registers.{part, with_part}
 use Rattle.memory.specs.Sections.{low, high, with_low, name_in, cells_in, with_cells, laid_low, extended, newline}
-use Rattle.memory.specs.Abstract.{text_of, name_of, job_lines, lines_left, left_of, line_end, some_lines}
+use Rattle.memory.specs.Abstract.{text_of, name_of, job_lines, left_of, line_end, some_lines}
 use Rattle.memory.proofs.Parted as parted
 use Rattle.memory.proofs.Frames.{BesideText, beside-low}
 use Rattle.memory.proofs.Splicing.{cells_long}
-use Rattle.memory.proofs.Texting.{length-laid, text-long}
+use Rattle.memory.proofs.Texting.{length-laid}
 use Rattle.memory.proofs.Committing.{pick_yes, pick_no}
 
 -- MORE TEXT

@@ -1,5 +1,5 @@
 -- What registers and memory stand for: the state of the machine. Assumes nothing: these are definitions.
-use Rattle.std.specs.Prelude.{ℕ, zero, suc, ◌+◌, ◌*◌, ◌/◌, ◌%◌, Bool, true, false, List, [], ◌∷◌, ◌++◌, map, length, take, drop, slice_index}
+use Rattle.std.specs.Prelude.{ℕ, zero, suc, ◌+◌, ◌/◌, ◌%◌, Bool, true, false, List, [], ◌∷◌, map, length, take, drop, slice_index}
 use Rattle.plain.specs.Pattern.{pick}
 use Rattle.plain.specs.Command as command
 use Rattle.journal.specs.Log.{Position, position, State, state}

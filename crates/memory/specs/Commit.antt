@@ -1,5 +1,5 @@
 -- What a commit makes of the memory: the directory spliced, and the small state set. Where it can't be done, all stays. Assumes nothing: these are definitions.
-use Rattle.std.specs.Prelude.{ℕ, ◌+◌, ◌-◌, Bool, true, false, ◌&&◌, List, [], length}
+use Rattle.std.specs.Prelude.{ℕ, ◌+◌, ◌-◌, Bool, true, ◌&&◌, List, length}
 use Rattle.plain.specs.Pattern.{pick}
 use Rattle.journal.specs.Log.{Source, no_entries, new_entries, copied, Splice}
 use Rattle.journal.specs.Small.{Also, nothing_else, push, slot, News}

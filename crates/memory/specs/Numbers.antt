@@ -1,5 +1,5 @@
 -- Enums as numbers. Assumes nothing: these are definitions.
-use Rattle.std.specs.Prelude.{ℕ, ◌%◌, Bool, true, false, List, [], ◌∷◌, ◌==◌, slice_index_or}
+use Rattle.std.specs.Prelude.{ℕ, ◌%◌, Bool, List, [], ◌∷◌, ◌==◌, slice_index_or}
 use Rattle.plain.specs.Pattern.{pick}
 use Rattle.commands.specs.declared.plan.Walk.{Walk}
 use Rattle.commands.specs.declared.plan.Walk.TheVariants as walk

@@ -1,8 +1,7 @@
 -- Lists tested by functions: any, every, those, each, added_up, over membership as a type. Assumes nothing.
-use Rattle.std.proofs.Common.{◌≡◌, ℕ, zero, suc, ◌+◌, ◌-◌, ◌*◌, ◌<◌, ◌≤◌, Bool, true, false, not, ◌&&◌, eqb, ltb, leb, ◌⊎◌, List, [], ◌∷◌, ◌++◌, length, get_or, take, drop, sym, refl, ap, ◌∙◌, subst, inl, inr, ⊎_elim, arith}
-use Rattle.std.proofs.lemmas.List.{append-nil, append_assoc, length-append, length-take, length-drop, take-append-drop}
-use Rattle.std.proofs.lemmas.Bool.{true≢false, false≢true, both_ways, eqb-true, eqb-false, eq-eqb, ne_eqb, cases_Bool, and_parts, and_from, leb-true, leb-false, ltb-true, ltb-false, not-true, not-false}
-use Rattle.plain.specs.Pattern.{pick, or, every, any, each, those, flat, added_up, none_of, same}
+use Rattle.std.proofs.Common.{◌≡◌, ℕ, suc, ◌+◌, Bool, true, false, not, ◌&&◌, eqb, ◌⊎◌, List, [], ◌∷◌, ◌++◌, length, sym, refl, ap, subst, inl, inr, arith}
+use Rattle.std.proofs.lemmas.Bool.{false≢true, both_ways, eqb-true, eq-eqb, cases_Bool, and_parts, and_from, not-true}
+use Rattle.plain.specs.Pattern.{pick, or, every, any, each, those, added_up}
 use Rattle.plain.specs.Promise.{distinct}
 
 -- membership

@@ -1,15 +1,15 @@
 -- Every turn keeps the house fair: no line's id is there twice, and the current line is no more than there are; and ids stay at least as large as they were. Assumes nothing.
-use Rattle.std.proofs.Common.{◌≡◌, ℕ, zero, suc, ◌+◌, ◌-◌, ◌*◌, ◌<◌, ◌≤◌, Bool, true, false, not, ◌&&◌, eqb, ltb, leb, ◌⊎◌, List, [], ◌∷◌, ◌++◌, length, take, drop, sym, refl, ap, ◌∙◌, subst, inl, inr, arith}
-use Rattle.std.proofs.lemmas.List.{append_assoc, length-append, length-take, length-drop, take-append-drop}
-use Rattle.std.proofs.lemmas.Bool.{and_parts, and_from, leb-true, le-leb, ltb-true, eqb-true, eqb-false, cases_Bool}
-use Rattle.plain.specs.Pattern.{pick, or, every, any, each, none_of, Pattern, pattern_of}
-use Rattle.plain.specs.Command.{Address, Range, Deed, append, insert, change, delete, join, move, copy, mark, print, number, where_is, swap, go_to, undo, redo, save, edit, load, files, bad, Simple, Command, plain, all_lines}
-use Rattle.plain.specs.House.{Line, Stand, Plain, Turn, turn, simple_turn, Found, Both, resolve, with_offset, base_of, where_of, range_at, real, can_write, with_file, no, finished, undo_turn, redo_turn, file_of, file_work, edited, Work, failed, worked, at_line, with_text, put_lines, moved_to, new_lines, lines_from, glued, short_all, start_work, deed_work, simple_work, swap_work, swapped, for_one, is_go, on_with, goes_on, many_work, for_all, noted, place_of, changes, how_many, File, meant}
+use Rattle.std.proofs.Common.{◌≡◌, ℕ, zero, suc, ◌+◌, ◌-◌, ◌<◌, ◌≤◌, Bool, true, false, not, ◌&&◌, eqb, ltb, leb, ◌⊎◌, List, [], ◌∷◌, ◌++◌, length, take, drop, sym, refl, ap, ◌∙◌, subst, inl, inr, arith}
+use Rattle.std.proofs.lemmas.List.{append_assoc, length-take, length-drop}
+use Rattle.std.proofs.lemmas.Bool.{and_parts, and_from, leb-true, le-leb, ltb-true, cases_Bool}
+use Rattle.plain.specs.Pattern.{pick, or, every, each, none_of, Pattern, pattern_of}
+use Rattle.plain.specs.Command.{Address, Deed, append, insert, change, delete, join, move, copy, mark, print, number, where_is, swap, go_to, undo, redo, save, edit, load, files, bad, Simple, Command, plain, all_lines}
+use Rattle.plain.specs.House.{Line, Stand, Plain, Turn, turn, simple_turn, Found, Both, resolve, with_offset, base_of, where_of, range_at, real, can_write, no, finished, undo_turn, redo_turn, file_of, file_work, edited, Work, failed, worked, at_line, with_text, put_lines, new_lines, lines_from, glued, short_all, start_work, deed_work, simple_work, swap_work, swapped, for_one, on_with, goes_on, many_work, for_all, noted, place_of, changes, how_many, File, meant}
 use Rattle.plain.specs.Promise.{distinct, ids, fair, StaysFair}
 use Rattle.plain.specs.Numbered.{from_one, numbered, StaysNumbered}
-use Rattle.plain.proofs.Basics.{In, in_left, in_right, in_cases, in_each, every_in, every_by, each_append, length_each, distinct_more}
+use Rattle.plain.proofs.Basics.{In, in_left, in_right, in_cases, in_each, every_in, every_by, each_append, length_each}
 use Rattle.plain.proofs.Moved.{split_three}
-use Rattle.plain.proofs.Goods.{Good, stand_test, good_from, good_test, good_more, new_low, new_distinct, length_new, length_put, put_good, put_new, blocks_good, moved_blocks, ids-good, swapped-ids, swapped_last, place-le, at-insert, at_gone, at-change, Real, real_from}
+use Rattle.plain.proofs.Goods.{Good, stand_test, good_from, good_test, good_more, new_low, new_distinct, length_new, put_good, put_new, blocks_good, moved_blocks, ids-good, swapped-ids, swapped_last, place-le, at-insert, at_gone, at-change, Real, real_from}
 
 -- what holds of both, if the test says so, holds of what is picked
 pub pick_by : {A : Type 0} (P : A → Type 0) (t : Bool) (x y : A) → (t ≡ true → P x) → (t ≡ false → P y) → P (pick t x y)

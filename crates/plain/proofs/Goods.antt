@@ -1,11 +1,11 @@
 -- A stand is good from o to n: its ids are distinct, at least o and below n, and the current line is one that it has. What keeps it so. Assumes nothing.
-use Rattle.std.proofs.Common.{◌≡◌, ℕ, zero, suc, ◌+◌, ◌-◌, ◌*◌, ◌<◌, ◌≤◌, Bool, true, false, not, ◌&&◌, eqb, ltb, leb, ◌⊎◌, List, [], ◌∷◌, ◌++◌, length, take, drop, sym, refl, ap, ◌∙◌, subst, inl, inr, arith}
+use Rattle.std.proofs.Common.{◌≡◌, ℕ, suc, ◌+◌, ◌-◌, ◌<◌, ◌≤◌, Bool, true, false, ◌&&◌, ltb, leb, ◌⊎◌, List, [], ◌∷◌, ◌++◌, length, take, drop, sym, refl, ap, ◌∙◌, inl, inr, arith}
 use Rattle.std.proofs.lemmas.List.{append_assoc, length-append, length-take, length-drop, take-append-drop, take-take}
-use Rattle.std.proofs.lemmas.Bool.{and_parts, and_from, leb-true, le-leb, ltb-true, lt-ltb, cases_Bool, ltb-false, leb-false}
-use Rattle.plain.specs.Pattern.{pick, or, every, any, each, those, none_of, Pattern, Put, replaced}
-use Rattle.plain.specs.House.{Line, Stand, Both, real, how_many, put_lines, with_text, new_lines, moved_to, lines_from, smaller, after_gone, place_of, swapped, Swapped}
+use Rattle.std.proofs.lemmas.Bool.{and_parts, and_from, leb-true, le-leb, ltb-true, lt-ltb}
+use Rattle.plain.specs.Pattern.{pick, every, each, none_of, Pattern}
+use Rattle.plain.specs.House.{Line, Stand, Both, real, how_many, put_lines, with_text, new_lines, moved_to, lines_from, after_gone, place_of, swapped}
 use Rattle.plain.specs.Promise.{distinct, ids}
-use Rattle.plain.proofs.Basics.{In, in_left, in_right, in_cases, in_each, in_each_from, every_in, every_by, each_append, length_each, Apart, DistinctParts, distinct-parts, distinct_cons, distinct_more, distinct-join}
+use Rattle.plain.proofs.Basics.{In, in_left, in_right, in_cases, in_each, in_each_from, every_in, every_by, each_append, length_each, distinct-parts, distinct_more, distinct-join}
 use Rattle.plain.proofs.Moved.{split_three, split_drop}
 
 pub record Good (o n : ℕ) (s : Stand) : Type 0 where

@@ -1,11 +1,11 @@
 -- Moving lines loses none and makes none, and the others keep their order. Assumes nothing.
-use Rattle.std.proofs.Common.{◌≡◌, ℕ, zero, suc, ◌+◌, ◌-◌, ◌*◌, ◌<◌, ◌≤◌, Bool, true, false, not, ◌&&◌, eqb, ltb, leb, ◌⊎◌, List, [], ◌∷◌, ◌++◌, length, get_or, take, drop, sym, refl, ap, ◌∙◌, subst, inl, inr, ⊎_elim, arith}
-use Rattle.std.proofs.lemmas.List.{append-nil, append_assoc, length-append, length-take, length-drop, take-append-drop, take-take, drop-drop}
-use Rattle.std.proofs.lemmas.Bool.{ltb-true, ltb-false, lt-ltb, le-ltb, le-leb, and_cases, leb-false, cases_Bool}
-use Rattle.plain.specs.Pattern.{pick, or, every, any, each, those}
-use Rattle.plain.specs.House.{Line, Stand, moved_to, lines_from, how_many}
+use Rattle.std.proofs.Common.{◌≡◌, ℕ, suc, ◌+◌, ◌-◌, ◌≤◌, true, false, not, eqb, ltb, List, [], ◌++◌, length, take, drop, sym, ap, ◌∙◌, inl, inr, arith}
+use Rattle.std.proofs.lemmas.List.{append-nil, append_assoc, length-append, take-append-drop, take-take, drop-drop}
+use Rattle.std.proofs.lemmas.Bool.{ltb-true, cases_Bool}
+use Rattle.plain.specs.Pattern.{any, those}
+use Rattle.plain.specs.House.{Line, moved_to, lines_from, how_many}
 use Rattle.plain.specs.Promise.{distinct, ids, without, MovedSame}
-use Rattle.plain.proofs.Basics.{In, in_left, in_right, in_cases, has_in, has_not, those_append, those_all, those_none, each_append, Apart, DistinctParts, distinct-parts}
+use Rattle.plain.proofs.Basics.{in_left, in_right, has_in, has_not, those_append, those_all, those_none, each_append, Apart, distinct-parts}
 
 -- a list is its front, a part and its rest
 pub split_three : {A : Type 0} (a b : ℕ) (xs : List A) → a ≤ b → take a xs ++ (take (b - a) (drop a xs) ++ drop b xs) ≡ xs

@@ -1,8 +1,8 @@
 -- What a stop leaves of a tape, and that what was fastened stays. Assumes nothing.
-use Rattle.std.proofs.Common.{◌≡◌, ℕ, zero, suc, ◌+◌, ◌-◌, ◌<◌, ◌≤◌, Bool, true, false, eqb, ltb, List, [], ◌∷◌, ◌++◌, length, get_or, take, drop, sym, refl, ap, ◌∙◌, subst, append_assoc, append-nil, arith, length-append}
-use lib.Seq.{take-append-add, drop-append-add, take-nil, drop-nil}
+use Rattle.std.proofs.Common.{◌≡◌, ℕ, zero, suc, ◌-◌, ◌<◌, eqb, List, [], ◌∷◌, ◌++◌, length, get_or, take, drop, sym, refl, ap, ◌∙◌, subst, append_assoc, append-nil, arith, length-append}
+use lib.Seq.{take-append-add, drop-append-add}
 use Rattle.plain.specs.Pattern.{pick}
-use Rattle.plain.specs.Device.{Device, Page, Tape, tape, tape_of, with_tape, nth_record, read_record, longer, fastened, anew, lesser, half, left, stopped, so_many_of}
+use Rattle.plain.specs.Device.{Device, Page, Tape, tape, nth_record, longer, fastened, lesser, half, left}
 use Rattle.plain.specs.Promise.{all_longer, FastenedStays}
 
 -- of the loose records those that stay

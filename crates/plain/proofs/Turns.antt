@@ -1,9 +1,9 @@
 -- A refused command changes nothing; one that shows changes no line. Assumes nothing.
-use Rattle.std.proofs.Common.{◌≡◌, ℕ, zero, suc, ◌+◌, ◌-◌, ◌*◌, ◌<◌, ◌≤◌, Bool, true, false, not, ◌&&◌, eqb, ltb, leb, List, [], ◌∷◌, ◌++◌, length, take, drop, sym, refl, ap, ◌∙◌, subst, arith}
-use Rattle.std.proofs.lemmas.Bool.{true≢false, false≢true}
+use Rattle.std.proofs.Common.{◌≡◌, ℕ, zero, ◌<◌, Bool, true, false, not, ◌&&◌, eqb, ltb, leb, List, [], ◌∷◌, length, refl, ◌∙◌, arith}
+use Rattle.std.proofs.lemmas.Bool.{true≢false}
 use Rattle.plain.specs.Pattern.{pick, or, none_of, Pattern, pattern_of}
-use Rattle.plain.specs.Command.{Address, Range, Deed, append, insert, change, delete, join, move, copy, mark, print, number, where_is, swap, go_to, undo, redo, save, edit, load, files, bad, Simple, Command, plain, all_lines}
-use Rattle.plain.specs.House.{Line, Stand, Plain, Turn, turn, simple_turn, Both, where_of, range_at, real, can_write, with_file, no, finished, undo_turn, redo_turn, file_of, file_work, edited, Work, failed, worked, at_line, start_work, deed_work, simple_work, for_one, is_go, on_with, goes_on, many_work, for_all, noted, lines_from, place_of, changes, how_many, File, meant}
+use Rattle.plain.specs.Command.{Deed, append, insert, change, delete, join, move, copy, mark, print, number, where_is, swap, go_to, undo, redo, save, edit, load, files, bad, Simple, plain, all_lines}
+use Rattle.plain.specs.House.{Line, Stand, Plain, Turn, turn, simple_turn, Both, where_of, range_at, real, can_write, no, finished, undo_turn, redo_turn, file_of, file_work, Work, worked, at_line, start_work, deed_work, simple_work, for_one, is_go, on_with, goes_on, many_work, for_all, noted, lines_from, place_of, changes, how_many, meant}
 use Rattle.plain.specs.Promise.{AllOrNone, ShownSame, changing, stands, stands_deed}
 
 -- what holds of both, holds of what is picked

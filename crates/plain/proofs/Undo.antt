@@ -1,9 +1,9 @@
 -- Undoing brings the text back, and redoing it again; a mark stays at its line. Assumes nothing.
-use Rattle.std.proofs.Common.{◌≡◌, ℕ, zero, suc, ◌+◌, ◌-◌, ◌*◌, ◌<◌, ◌≤◌, Bool, true, false, not, ◌&&◌, eqb, ltb, leb, List, [], ◌∷◌, ◌++◌, length, take, drop, sym, refl, ap, ◌∙◌, subst, arith}
-use Rattle.std.proofs.lemmas.Bool.{true≢false, false≢true, eqb-false}
-use Rattle.plain.specs.Pattern.{pick, or, none_of, Pattern, pattern_of}
-use Rattle.plain.specs.Command.{Address, Range, Deed, append, insert, change, delete, join, move, copy, mark, print, number, where_is, swap, go_to, undo, redo, save, edit, load, files, bad, Simple, Command, plain, all_lines}
-use Rattle.plain.specs.House.{Line, Mark, Stand, Plain, Turn, turn, simple_turn, Found, resolve, Both, where_of, range_at, real, no, finished, undo_turn, redo_turn, file_of, file_work, edited, Work, failed, start_work, deed_work, simple_work, for_all, changes, how_many, File, meant}
+use Rattle.std.proofs.Common.{◌≡◌, ℕ, true, ◌&&◌, eqb, ltb, leb, List, ◌∷◌, take, sym, refl, subst, arith}
+use Rattle.std.proofs.lemmas.Bool.{false≢true, eqb-false}
+use Rattle.plain.specs.Pattern.{none_of, pattern_of}
+use Rattle.plain.specs.Command.{Deed, append, insert, change, delete, join, move, copy, mark, print, number, where_is, swap, go_to, undo, redo, save, edit, load, files, bad, Simple, Command, plain, all_lines}
+use Rattle.plain.specs.House.{Mark, Stand, Plain, Turn, turn, simple_turn, Found, resolve, Both, where_of, range_at, real, no, finished, file_of, file_work, Work, start_work, deed_work, simple_work, for_all, changes, how_many, meant}
 use Rattle.plain.specs.Promise.{UndoneRight, MarksStay, changing, alone}
 use Rattle.plain.proofs.Turns.{pick_at}
 use Rattle.plain.proofs.Fair.{pick_by}

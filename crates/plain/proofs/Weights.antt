@@ -1,12 +1,12 @@
 -- What a stand weighs beside the one that comes of it by putting lines in place of others. Assumes nothing.
-use Rattle.std.proofs.Common.{◌≡◌, ℕ, zero, suc, ◌+◌, ◌-◌, ◌*◌, ◌<◌, ◌≤◌, Bool, true, false, not, ◌&&◌, eqb, ltb, leb, ◌⊎◌, List, [], ◌∷◌, ◌++◌, length, get_or, take, drop, sym, refl, ap, ◌∙◌, subst, inl, inr, ⊎_elim, arith}
-use Rattle.std.proofs.lemmas.List.{append-nil, append_assoc, length-append, length-take, length-drop, take-append-drop, take-take, drop-drop}
-use Rattle.std.proofs.lemmas.Bool.{ltb-true, ltb-false, lt-ltb, le-ltb, le-leb, leb-true, and_cases, and_from, and_parts, and_left, and_right, ne_eqb, eq-eqb, eqb-true, leb-false, cases_Bool, false≢true}
-use Rattle.plain.specs.Pattern.{pick, or, every, any, each, those, added_up, none_of, same}
+use Rattle.std.proofs.Common.{◌≡◌, ℕ, suc, ◌+◌, ◌-◌, ◌*◌, ◌<◌, ◌≤◌, Bool, true, false, not, ◌&&◌, eqb, ltb, leb, ◌⊎◌, List, [], ◌∷◌, ◌++◌, length, take, drop, sym, refl, ap, ◌∙◌, subst, inl, inr, arith}
+use Rattle.std.proofs.lemmas.List.{append_assoc, length-append, length-take, length-drop}
+use Rattle.std.proofs.lemmas.Bool.{ltb-true, leb-true, and_from, and_parts, and_left, ne_eqb, eq-eqb, eqb-true, cases_Bool}
+use Rattle.plain.specs.Pattern.{pick, every, any, those, added_up, same}
 use Rattle.plain.specs.House.{Line, Stand, how_many, put_lines, line_weight, in_text, NextTo, neighbours, breaks, stand_weight}
 use Rattle.plain.specs.Promise.{distinct, ids}
 use Rattle.plain.specs.Weight.{extra_break, PutWeight, PutWeightBack, ZeroDiffers}
-use Rattle.plain.proofs.Basics.{In, in_left, in_right, in_cases, in_each, in_each_from, any_in, any_from, any_none, every_in, every_by, every_append, has_in, has_not, those_append, those_all, those_none, each_append, length_each, added_append, added_same, added_none, Apart, DistinctParts, distinct-parts, distinct_cons}
+use Rattle.plain.proofs.Basics.{In, in_left, in_right, in_cases, in_each, in_each_from, any_in, any_from, any_none, every_in, every_append, those_append, those_all, those_none, each_append, added_append, added_same, added_none, Apart, distinct-parts, distinct_cons}
 use Rattle.plain.proofs.Moved.{split_three}
 
 -- lines in a text

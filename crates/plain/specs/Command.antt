@@ -1,6 +1,6 @@
 -- What is typed, read. Assumes nothing: these are definitions.
-use Rattle.std.specs.Prelude.{◌≡◌, ℕ, zero, suc, ◌+◌, ◌-◌, ◌*◌, ◌/◌, ◌%◌, ◌<◌, ◌≤◌, Bool, true, false, not, ◌&&◌, List, [], ◌∷◌, ◌++◌, length, ◌==◌, nat_eq, nat_le, nat_lt, slice_index}
-use Rattle.plain.specs.Pattern.{pick, or, every, any, each, those, none_of, same, between, Pattern, Got, none, got, with_got, next_is, less_one, pattern_of, all_bytes}
+use Rattle.std.specs.Prelude.{ℕ, zero, suc, ◌+◌, ◌-◌, ◌*◌, Bool, true, false, ◌&&◌, List, [], ◌∷◌, ◌++◌, length, ◌==◌, nat_eq, nat_le, nat_lt, slice_index}
+use Rattle.plain.specs.Pattern.{pick, or, any, none_of, same, between, Got, none, got, with_got, next_is, less_one, all_bytes}
 
 -- where a line is: 0 the current one, 1 the last, 2 a number, 3 a mark, 4 the next that matches, 5 the one before that matches; and so many lines on and back
 pub record Address : Type 0 where

@@ -1,7 +1,7 @@
 -- Two tapes on which a record can only be put at the end, or which are begun anew; and what a stop may leave of the last records. Assumes nothing:
 -- these are definitions.
-use Rattle.std.specs.Prelude.{◌≡◌, ℕ, zero, suc, ◌+◌, ◌-◌, ◌*◌, ◌/◌, ◌%◌, ◌<◌, ◌≤◌, Bool, true, false, not, ◌&&◌, ltb, List, [], ◌∷◌, ◌++◌, length, take, drop, ◌==◌, nat_lt, slice_index}
-use Rattle.plain.specs.Pattern.{pick, or, every}
+use Rattle.std.specs.Prelude.{ℕ, zero, suc, ◌+◌, ◌-◌, Bool, ◌&&◌, ltb, List, [], ◌∷◌, ◌++◌, length, take, drop, ◌==◌, nat_lt, slice_index}
+use Rattle.plain.specs.Pattern.{pick, every}
 
 abbrev pub Page : Type 0
 Page = List ℕ

@@ -1,6 +1,6 @@
 -- A day in the plain house: a shopping list is typed, changed, searched and kept as a file. Assumes nothing: these are definitions.
-use Rattle.std.specs.Prelude.{◌≡◌, ℕ, Bool, true, false, List, [], ◌∷◌, ◌++◌, codes}
-use Rattle.plain.specs.Pattern.{each, eight, with_length, flat}
+use Rattle.std.specs.Prelude.{◌≡◌, ℕ, List, [], ◌∷◌, ◌++◌, codes}
+use Rattle.plain.specs.Pattern.{eight, with_length, flat}
 use Rattle.plain.specs.Command.{Command, reads}
 use Rattle.plain.specs.House.{Plain, Turn, turn, no, weight}
 use Rattle.plain.specs.Promise.{first_plain}

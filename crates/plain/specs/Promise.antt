@@ -1,10 +1,10 @@
 -- What the house promises. Each is a statement, a type whose proof is owed. Assumes nothing.
-use Rattle.std.specs.Prelude.{◌≡◌, ℕ, zero, suc, ◌+◌, ◌-◌, ◌*◌, ◌/◌, ◌%◌, ◌<◌, ◌≤◌, Bool, true, false, not, ◌&&◌, ltb, ◌⊎◌, List, [], ◌∷◌, ◌++◌, length, nat_eq, nat_le, nat_lt}
-use Rattle.plain.specs.Pattern.{pick, or, every, any, each, those, flat, same, none_of, Pattern, matches, both, either, some, ends, has, Put, replaced}
+use Rattle.std.specs.Prelude.{◌≡◌, ℕ, suc, ◌+◌, ◌-◌, ◌*◌, ◌<◌, ◌≤◌, Bool, true, false, not, ◌&&◌, ltb, ◌⊎◌, List, [], ◌∷◌, ◌++◌, length, nat_eq, nat_le, nat_lt}
+use Rattle.plain.specs.Pattern.{pick, or, every, any, each, those, Pattern, matches, both, either, some, ends, has, replaced}
 use Rattle.plain.specs.Command.{Address, Range, Deed, append, insert, change, delete, join, move, copy, mark, print, number, where_is, swap, go_to, undo, redo, save, edit, load, files, bad, Simple, Command, plain, all_lines, reads}
-use Rattle.plain.specs.House.{Line, Stand, Plain, Turn, turn, Both, where_of, plain_range, given_lines, weight, changes, empty_stand, Work, start_work, deed_work, both_of, place_of, moved_to, lines_from, how_many, File}
+use Rattle.plain.specs.House.{Line, Stand, Plain, Turn, turn, where_of, plain_range, given_lines, weight, changes, empty_stand, moved_to, lines_from, how_many}
 use Rattle.plain.specs.Device.{Device, Page, tape_of, read_record, longer, fastened, anew, stopped}
-use Rattle.plain.specs.Run.{Engine, World, Item, proper, Right, new_world, Steady}
+use Rattle.plain.specs.Run.{Engine, Item, proper, Right, new_world, Steady}
 
 -- how many records a command may read and put on that looks for nothing: by the lines that it has to do with, and what it shows
 abbrev pub span : Plain → Simple → ℕ

@@ -1,7 +1,7 @@
 -- The house as a machine with a memory, told one thing and doing one act at a time; how it runs beside its pages; and what it is to be right
 -- beside a plain house. Assumes nothing: these are definitions.
-use Rattle.std.specs.Prelude.{◌≡◌, ℕ, zero, suc, ◌+◌, ◌-◌, ◌*◌, ◌/◌, ◌%◌, ◌<◌, ◌≤◌, Bool, true, false, not, ◌&&◌, ltb, ◌⊎◌, List, [], ◌∷◌, ◌++◌, length, nat_eq, nat_le, nat_lt}
-use Rattle.plain.specs.Pattern.{pick, or, every}
+use Rattle.std.specs.Prelude.{◌≡◌, ℕ, zero, suc, ◌≤◌, Bool, true, false, ◌&&◌, ltb, ◌⊎◌, List, [], ◌∷◌, ◌++◌, length, nat_eq, nat_le, nat_lt}
+use Rattle.plain.specs.Pattern.{pick, every}
 use Rattle.plain.specs.Device.{Device, Page, tape_of, read_record, longer, fastened, anew, stopped, a_page, fresh}
 
 -- what the machine is told

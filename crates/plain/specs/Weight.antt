@@ -1,5 +1,5 @@
 -- What a stand weighs beside the one that comes of it by putting lines in place of others. Assumes nothing: these are definitions.
-use Rattle.std.specs.Prelude.{◌≡◌, ℕ, ◌+◌, ◌-◌, ◌*◌, ◌≤◌, Bool, true, false, not, ◌&&◌, leb, List, [], ◌∷◌, length, take, drop, nat_le, nat_lt}
+use Rattle.std.specs.Prelude.{◌≡◌, ℕ, ◌+◌, ◌-◌, ◌*◌, ◌≤◌, true, not, ◌&&◌, leb, List, [], ◌∷◌, length, take, drop, nat_le, nat_lt}
 use Rattle.plain.specs.Pattern.{pick, or, every, added_up, none_of}
 use Rattle.plain.specs.House.{Line, Mark, Stand, how_many, put_lines, line_weight, stand_weight}
 use Rattle.plain.specs.Promise.{distinct, ids}

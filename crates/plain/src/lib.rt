@@ -1,4 +1,6 @@
 //! The definitions that everything is proved against, and their laws: each law is the contract of a function.
+#![tactic(auto)]
+
 ghost use Rattle.plain.specs.Example.{ShoppingListStands};
 ghost use Rattle.plain.specs.Numbered.{StaysNumbered};
 ghost use Rattle.plain.specs.Promise.{AllOrNone, FastenedStays, MarksStay, MovedSame, ShownSame, StaysFair, UndoneRight};

@@ -3,7 +3,7 @@ use Rattle.std.proofs.Common.{◌≡◌, ℕ, Bool, true, false, eqb, List, [], 
 use denote.Bor.{Bor}
 use Rattle.std.proofs.lemmas.Bool.{and_parts}
 use Rattle.plain.specs.Pattern.{pick, all_bytes}
-use Rattle.plain.specs.Device.{Page, a_page}
+use Rattle.plain.specs.Device.{Page}
 use Rattle.journal.specs.Log.{Splice, Rec, head, line, copy, commit, broken, halved}
 use Rattle.journal.specs.Small.{News}
 use Rattle.records.specs.Pages.{beside, page_of, record_of, Bytes, RecFits}

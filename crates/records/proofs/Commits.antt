@@ -1,5 +1,5 @@
 -- A commit as it is written. Assumes nothing.
-use Rattle.std.proofs.Common.{◌≡◌, ℕ, zero, suc, ◌+◌, ◌-◌, ◌≤◌, List, [], ◌∷◌, ◌++◌, length, take, drop, set, sym, refl, ap, ◌∙◌, subst, arith}
+use Rattle.std.proofs.Common.{◌≡◌, ℕ, suc, ◌-◌, ◌≤◌, List, [], ◌∷◌, ◌++◌, length, take, drop, set, sym, refl, ap, ◌∙◌, arith}
 use borrow.Rule.Slice.PartMut.{put_mid}
 use lib.ListN.{length-map}
 use Rattle.journal.specs.Log.{commit}
@@ -9,7 +9,7 @@ use Rattle.records.specs.declared.Also.TheVariants.{Nothing, Push, Store}
 use Rattle.records.specs.declared.Numbers.{Numbers}
 use Rattle.records.specs.Pages.{fours, closed, source_kind, source_from, source_to, also_kind, also_number, entry_in, name_in, commit_numbers, page_of}
 use Rattle.records.specs.Values.{low_bytes, source_of, splice_of, also_of, name_for, news_of}
-use Rattle.records.proofs.Writing.{length-fours, written_first, written_next, page-closed}
+use Rattle.records.proofs.Writing.{written_first, written_next, page-closed}
 
 name_is : (a : Also) (cells : List ℕ) → low_bytes (name_for a cells) ≡ (entry_in (also_of a (low_bytes cells))).name
 name_is Nothing cells = refl

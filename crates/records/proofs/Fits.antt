@@ -1,10 +1,10 @@
 -- That the records of lines, of copies and of a new tape fit their pages; and that many pages are read back. Assumes nothing.
-use Rattle.std.proofs.Common.{◌≡◌, ℕ, zero, suc, ◌+◌, ◌-◌, ◌*◌, ◌/◌, ◌<◌, ◌≤◌, ◌⊎◌, List, [], ◌∷◌, ◌++◌, map, length, sym, refl, ap, ◌∙◌, subst, inl, inr, arith}
+use Rattle.std.proofs.Common.{◌≡◌, ℕ, zero, suc, ◌+◌, ◌-◌, ◌/◌, ◌≤◌, List, [], ◌∷◌, ◌++◌, map, length, refl, subst, inl, inr, arith}
 use Rattle.plain.proofs.Basics.{In, in_cases}
-use Rattle.journal.specs.Log.{Splice, no_splice, Rec, head, line, copy, commit, broken, Packed, parts, copies, line_records, copy_records, block, command_records, set_up, begin_records}
+use Rattle.journal.specs.Log.{Splice, Rec, commit, parts, copies, line_records, copy_records, block, command_records, set_up, begin_records}
 use Rattle.journal.specs.Small.{News}
-use Rattle.records.specs.Lines.{records_for, piece_at, pieces, packed}
-use Rattle.records.specs.Pages.{page_of, record_of, SmallNumber, Bytes, PieceFits, SpliceFits, NewsFits, RecFits}
+use Rattle.records.specs.Lines.{records_for, pieces, packed}
+use Rattle.records.specs.Pages.{page_of, record_of, SmallNumber, Bytes, SpliceFits, NewsFits, RecFits}
 use Rattle.records.proofs.Lines.{piece-fits}
 use Rattle.records.proofs.Pages.{page-back}
 

@@ -1,8 +1,6 @@
 -- A line in records. Assumes nothing.
-use Rattle.std.proofs.Common.{◌≡◌, ℕ, zero, suc, ◌+◌, ◌-◌, ◌*◌, ◌/◌, ◌<◌, ◌≤◌, min, Bool, true, false, ◌&&◌, ltb, List, [], ◌∷◌, ◌++◌, length, get_or, take, drop, sym, refl, ap, ◌∙◌, subst, arith, length-drop, length-take, take_all, drop-drop, take-add}
-use Rattle.plain.specs.Pattern.{pick, every}
-use Rattle.plain.specs.Device.{lesser}
-use Rattle.journal.specs.Log.{Piece, piece, no_piece, Packed, pieces_of}
+use Rattle.std.proofs.Common.{◌≡◌, ℕ, zero, suc, ◌+◌, ◌-◌, ◌*◌, ◌/◌, ◌<◌, ◌≤◌, min, List, ◌++◌, length, get_or, take, drop, sym, refl, ap, ◌∙◌, arith, length-drop, length-take, take_all, drop-drop, take-add}
+use Rattle.journal.specs.Log.{no_piece, pieces_of}
 use Rattle.records.specs.Lines.{records_for, share, piece_at, pieces, packed, joined}
 use Rattle.records.specs.Pages.{Bytes, PieceFits}
 use Rattle.records.specs.Laws.{PackedRight}

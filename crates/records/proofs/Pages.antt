@@ -1,14 +1,14 @@
 -- Records as pages, and back. Assumes nothing.
-use Rattle.std.proofs.Common.{◌≡◌, ℕ, zero, suc, ◌+◌, ◌-◌, ◌*◌, ◌/◌, ◌%◌, ◌<◌, ◌≤◌, Bool, true, false, ◌&&◌, eqb, ltb, List, [], ◌∷◌, ◌++◌, length, get_or, take, drop, sym, refl, ap, ◌∙◌, subst, append_assoc, arith, length-append, take_all}
+use Rattle.std.proofs.Common.{◌≡◌, ℕ, suc, ◌+◌, ◌*◌, ◌/◌, ◌%◌, ◌<◌, ◌≤◌, true, false, eqb, ltb, List, [], ◌∷◌, ◌++◌, length, get_or, take, sym, refl, ap, ◌∙◌, arith, length-append, take_all}
 use Rattle.std.proofs.lemmas.List.{get_or_past}
 use Rattle.std.proofs.lemmas.Bool.{lt-ltb, eq-eqb, ne_eqb, eqb-true, and_from}
-use Rattle.plain.specs.Pattern.{pick, every}
+use Rattle.plain.specs.Pattern.{pick}
 use Rattle.plain.specs.Device.{Page, lesser, a_page}
-use Rattle.journal.specs.Log.{Source, no_entries, new_entries, copied, Splice, Piece, piece, Rec, head, line, copy, commit, broken, halved}
-use Rattle.journal.specs.Small.{Entry, entry, Also, nothing_else, push, slot, News}
+use Rattle.journal.specs.Log.{Source, no_entries, new_entries, copied, Splice, Piece, Rec, head, line, copy, commit, broken, halved}
+use Rattle.journal.specs.Small.{Also, nothing_else, push, slot, News}
 use Rattle.journal.proofs.Contents.{torn_unsealed}
 use Rattle.records.specs.Lines.{share}
-use Rattle.records.specs.Pages.{two, four, fours, two_at, four_at, closed, source_kind, source_from, source_to, source_by, also_kind, also_number, entry_in, also_by, name_in, commit_numbers, head_page, line_page, commit_page, page_of, sealed, piece_in_page, splice_in_page, name_in_page, also_in_page, news_in_page, by_kind, record_of, recopied, SmallNumber, Bytes, PieceFits, SpliceFits, AlsoFits, NewsFits, RecFits}
+use Rattle.records.specs.Pages.{two, four, fours, four_at, closed, source_kind, source_from, source_to, source_by, also_kind, also_number, entry_in, also_by, name_in, commit_numbers, head_page, line_page, commit_page, page_of, sealed, piece_in_page, splice_in_page, name_in_page, also_in_page, by_kind, record_of, recopied, SmallNumber, Bytes, PieceFits, SpliceFits, AlsoFits, NewsFits, RecFits}
 use Rattle.records.proofs.Digits.{two_back, four-back, two_bytes, four_bytes, fours-bytes, bytes-append, length-closed, closed-bytes, closed_seal, closed-back}
 
 -- a page that is sealed, by its kind

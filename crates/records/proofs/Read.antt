@@ -1,13 +1,12 @@
 -- What every page gives, whatever is in it; and that a page has its numbers only up to their bits. Assumes nothing.
-use Rattle.std.proofs.Common.{◌≡◌, ℕ, zero, suc, ◌+◌, ◌-◌, ◌*◌, ◌%◌, ◌<◌, ◌≤◌, Bool, true, false, ◌&&◌, eqb, ltb, List, [], ◌∷◌, ◌++◌, length, get_or, take, drop, sym, refl, ap, ◌∙◌, subst, arith, length-take}
-use Rattle.std.proofs.lemmas.Bool.{and_parts}
-use Rattle.plain.specs.Pattern.{pick, every, all_bytes}
+use Rattle.std.proofs.Common.{◌≡◌, ℕ, ◌%◌, ◌<◌, ◌≤◌, true, eqb, List, [], ◌∷◌, ◌++◌, length, get_or, take, drop, refl, ap, subst, arith, length-take}
+use Rattle.plain.specs.Pattern.{pick, all_bytes}
 use Rattle.plain.specs.Device.{Page, lesser}
 use Rattle.plain.proofs.Fair.{pick_by}
 use Rattle.journal.specs.Log.{Source, no_entries, new_entries, copied, Splice, Piece, piece, piece_in, Rec, head, line, copy, commit, broken}
-use Rattle.journal.specs.Small.{Entry, entry, Also, nothing_else, push, slot, News}
+use Rattle.journal.specs.Small.{entry, Also, nothing_else, push, slot, News}
 use Rattle.records.specs.Lines.{share}
-use Rattle.records.specs.Pages.{two, four, four_at, closed, source_kind, source_from, source_to, source_by, also_kind, also_number, entry_in, also_by, name_in, beside, page_of, sealed, piece_in_page, splice_in_page, name_in_page, also_in_page, news_in_page, by_kind, record_of, SmallNumber, Bytes, SpliceFits, AlsoFits, NewsFits, RecFits}
+use Rattle.records.specs.Pages.{four, four_at, closed, source_kind, source_from, source_to, source_by, also_kind, also_number, entry_in, beside, page_of, sealed, piece_in_page, splice_in_page, name_in_page, also_in_page, news_in_page, by_kind, record_of, SmallNumber, Bytes, SpliceFits, AlsoFits, NewsFits}
 use Rattle.records.specs.Checked.{checked, checked_record_of, cut, cut_source, cut_splice, cut_also, cut_news, PieceRead, CommitRead, ReadFits}
 use Rattle.records.proofs.Digits.{two-small, four-small, byte_at, bytes_take, bytes_drop, two_cut, four_cut}
 use Rattle.records.proofs.Pages.{share-small}

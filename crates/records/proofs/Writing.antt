@@ -1,5 +1,5 @@
 -- Bytes written over parts of a list, from its front on. Assumes nothing.
-use Rattle.std.proofs.Common.{◌≡◌, ℕ, zero, suc, ◌+◌, ◌-◌, ◌*◌, ◌%◌, ◌<◌, ◌≤◌, List, [], ◌∷◌, ◌++◌, map, length, get_or, take, drop, set, replicate, sym, refl, ap, ◌∙◌, subst, append_assoc, append-nil, arith, length-append, length-drop}
+use Rattle.std.proofs.Common.{◌≡◌, ℕ, suc, ◌+◌, ◌-◌, ◌*◌, ◌<◌, ◌≤◌, List, [], ◌∷◌, ◌++◌, map, length, get_or, take, drop, set, replicate, sym, refl, ap, ◌∙◌, append_assoc, append-nil, arith, length-append, length-drop}
 use borrow.Rule.Slice.PartMut.{put_mid}
 use lib.ListN.{length-replicate, length-map}
 use Rattle.std.proofs.lemmas.List.{map_more, take_more, drop_more, set_at, take_all, drop_all, length-take-le, take_at, drop_at, drop-drop}

@@ -1,6 +1,6 @@
 -- Records as they are believed when they are read back: of bytes, and no commit that copies entries that it takes out; and numbers as a page has them. Assumes
 -- nothing: these are definitions.
-use Rattle.std.specs.Prelude.{◌≡◌, ℕ, ◌%◌, ◌<◌, ◌≤◌, Bool, true, false, length}
+use Rattle.std.specs.Prelude.{◌≡◌, ℕ, ◌%◌, ◌<◌, ◌≤◌, true, length}
 use Rattle.plain.specs.Pattern.{pick, all_bytes}
 use Rattle.plain.specs.Device.{Page}
 use Rattle.journal.specs.Log.{Source, no_entries, new_entries, copied, Splice, Piece, Rec, head, line, copy, commit, broken}

@@ -1,7 +1,7 @@
 -- A line in records: 503 of its bytes to each, and one record for an empty line. Assumes nothing: these are definitions.
 use Rattle.std.specs.Prelude.{ℕ, zero, suc, ◌+◌, ◌-◌, ◌*◌, ◌/◌, List, [], ◌∷◌, ◌++◌, length, take, drop}
 use Rattle.plain.specs.Device.{lesser}
-use Rattle.journal.specs.Log.{Piece, piece, Packed, pieces_of}
+use Rattle.journal.specs.Log.{Piece, piece, Packed}
 
 -- how many records a line of n bytes takes
 abbrev pub records_for : ℕ → ℕ

@@ -6,7 +6,7 @@
 --   copy    kind, part, the line's length 2, index of the directory 4, up to 503 bytes
 --   commit  kind, 13 numbers of 4: from, gone, the source's kind and two numbers, count, current line, weight, what else is said and three numbers, the
 --           length of a file's name; and the name
-use Rattle.std.specs.Prelude.{◌≡◌, ℕ, zero, suc, ◌+◌, ◌-◌, ◌*◌, ◌/◌, ◌%◌, ◌<◌, ◌≤◌, Bool, true, false, ◌&&◌, List, [], ◌∷◌, ◌++◌, length, take, drop, replicate, ◌==◌, nat_le, nat_lt, slice_index}
+use Rattle.std.specs.Prelude.{◌≡◌, ℕ, ◌+◌, ◌-◌, ◌*◌, ◌/◌, ◌%◌, ◌<◌, ◌≤◌, Bool, true, ◌&&◌, List, [], ◌∷◌, ◌++◌, length, take, drop, replicate, ◌==◌, nat_le, nat_lt, slice_index}
 use Rattle.plain.specs.Pattern.{pick, or, every}
 use Rattle.plain.specs.Device.{Page, lesser}
 use Rattle.journal.specs.Log.{Source, no_entries, new_entries, copied, Splice, Piece, piece, Rec, head, line, copy, commit, broken}

@@ -1,5 +1,5 @@
 -- The records of the code, in the words of the log. Assumes nothing: these are definitions.
-use Rattle.std.specs.Prelude.{ℕ, ◌%◌, List, [], ◌∷◌, map}
+use Rattle.std.specs.Prelude.{ℕ, ◌%◌, List, [], map}
 use Rattle.journal.specs.Log as log
 use Rattle.journal.specs.Log.{Rec, head, line, copy, commit, broken}
 use Rattle.journal.specs.Small as small

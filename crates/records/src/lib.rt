@@ -1,12 +1,16 @@
 //! Records of the log as pages of 512 bytes: written into lent bytes, and read from them without a copy. Laws of these pages are contracts of functions that do
 //! nothing.
+#![tactic(auto)]
+
 ghost use Rattle.records.specs.Laws.{LinePacked, PageBack, RecopiedRight, TornBroken};
 
 mod reader;
 mod writer;
 
 pub use reader::{decode, decode_checked, piece_read};
-pub use writer::{copy_line, encode_commit, encode_head, encode_line, line_to_copy, records_for, share_of};
+pub use writer::{
+    copy_line, encode_commit, encode_head, encode_line, line_to_copy, records_for, share_of,
+};
 
 /// How many bytes a page has.
 pub const PAGE: usize = 512;

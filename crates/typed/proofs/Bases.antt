@@ -1,10 +1,10 @@
 -- A place, by its first byte. Assumes nothing.
-use Rattle.std.proofs.Common.{◌≡◌, ℕ, ◌-◌, ◌<◌, ◌≤◌, Bool, true, false, ◌&&◌, eqb, ltb, leb, List, [], ◌∷◌, length, get_or, take, drop, sym, refl, ap, ◌∙◌, arith}
+use Rattle.std.proofs.Common.{◌≡◌, ℕ, ◌<◌, ◌≤◌, Bool, true, false, ltb, List, [], ◌∷◌, length, get_or, sym, refl, ap, ◌∙◌, arith}
 use Rattle.std.proofs.lemmas.List.{take_rest}
 use Rattle.std.proofs.lemmas.Bool.{ne_eqb}
 use Rattle.std.proofs.lemmas.Bool.Decides.{nat_tests}
-use Rattle.plain.specs.Pattern.{pick, Got, none, got, with_got, between, less_one}
-use Rattle.plain.specs.Command.{Address, here, address, digit, number_part, after_digits, digits_long, up_to, base}
+use Rattle.plain.specs.Pattern.{pick, none, got, with_got, between}
+use Rattle.plain.specs.Command.{here, address, number_part, after_digits, digits_long, up_to, base}
 use Rattle.typed.specs.Answer.{a_number}
 use Rattle.typed.proofs.Fronts.{tail_of}
 use Rattle.typed.proofs.Digits.{digit_yes, digit_no, after_more}

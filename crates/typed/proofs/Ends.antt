@@ -1,8 +1,8 @@
 -- A part up to a byte that no backslash escapes. Assumes nothing.
-use Rattle.std.proofs.Common.{◌≡◌, ℕ, zero, suc, ◌+◌, ◌-◌, ◌<◌, ◌≤◌, Bool, true, false, eqb, List, [], ◌∷◌, ◌++◌, length, get_or, take, drop, sym, refl, ap, ◌∙◌, subst, add-zero, arith, length-drop, get_or-drop, drop-drop, take-add}
+use Rattle.std.proofs.Common.{◌≡◌, ℕ, ◌+◌, ◌<◌, ◌≤◌, true, false, eqb, List, [], ◌∷◌, ◌++◌, length, get_or, take, drop, sym, refl, ap, ◌∙◌, arith, drop-drop, take-add}
 use Rattle.std.proofs.lemmas.List.{drop_all, drop_more, take_more}
 use Rattle.std.proofs.lemmas.Bool.{eq-eqb, ne_eqb}
-use Rattle.plain.specs.Pattern.{pick, Got, none, got}
+use Rattle.plain.specs.Pattern.{none, got}
 use Rattle.plain.specs.Command.{up_to}
 
 found : (d c : ℕ) (bs cs : List ℕ) → eqb c d ≡ true → up_to d bs (c ∷ cs) ≡ got bs cs

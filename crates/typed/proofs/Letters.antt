@@ -1,8 +1,8 @@
 -- A deed, by its letter. Assumes nothing.
-use Rattle.std.proofs.Common.{◌≡◌, ℕ, ◌<◌, ◌≤◌, Bool, true, false, ◌&&◌, eqb, leb, List, [], ◌∷◌, length, get_or, sym, refl, ap, ◌∙◌, ⊎_elim, arith}
+use Rattle.std.proofs.Common.{◌≡◌, ℕ, ◌≤◌, ◌&&◌, eqb, leb, List, [], ◌∷◌, length, get_or, refl, ⊎_elim}
 use Rattle.std.proofs.lemmas.Bool.{cases_Bool, and_parts, and_from, eq-eqb, eqb-true, ne_eqb, le-leb, leb-true}
-use Rattle.plain.specs.Pattern.{pick, Got, none, got, with_got, between}
-use Rattle.plain.specs.Command.{Deed, append, insert, change, delete, join, move, copy, mark, print, number, where_is, swap, go_to, undo, redo, save, edit, load, files, given, ended, or_here, a_file, deed}
+use Rattle.plain.specs.Pattern.{none, got, with_got, between}
+use Rattle.plain.specs.Command.{append, insert, change, delete, join, move, copy, mark, print, number, where_is, go_to, undo, redo, save, edit, load, files, given, ended, or_here, a_file, deed}
 use Rattle.typed.specs.Answer.{a_swap}
 
 pub at-nothing : deed [] ≡ got go_to []

@@ -1,7 +1,7 @@
 -- Which match is replaced, and the names of files. Assumes nothing.
 use Rattle.std.proofs.Common.{◌≡◌, ℕ, zero, suc, ◌+◌, ◌<◌, ◌≤◌, Bool, true, false, ◌&&◌, eqb, ltb, leb, List, [], ◌∷◌, length, get_or, sym, refl, ap, ◌∙◌, ⊎_elim, arith}
 use Rattle.std.proofs.lemmas.Bool.{cases_Bool, and_parts, and_from, le-leb, leb-true, ltb-true, ne_eqb, eq-eqb}
-use Rattle.plain.specs.Pattern.{pick, or, any, same, Got, none, got, none_of, next_is, less_one}
+use Rattle.plain.specs.Pattern.{pick, any, same, Got, none, got, none_of}
 use Rattle.plain.specs.Command.{digit, starts_digit, number_part, after_digits, digits_long, which_of, a_file}
 use Rattle.typed.specs.Answer.{a_number}
 use Rattle.typed.proofs.Fronts.{took, refused}

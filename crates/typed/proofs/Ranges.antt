@@ -1,7 +1,7 @@
 -- A range, part by part. Assumes nothing.
-use Rattle.std.proofs.Common.{◌≡◌, ℕ, suc, ◌<◌, ◌≤◌, Bool, true, false, eqb, ◌⊎◌, List, [], ◌∷◌, length, get_or, sym, refl, ap, ◌∙◌, subst, inl, inr, arith}
+use Rattle.std.proofs.Common.{◌≡◌, ℕ, ◌<◌, ◌≤◌, true, false, List, [], ◌∷◌, length, get_or, sym, refl, subst, arith}
 use Rattle.std.proofs.lemmas.Bool.{ne_eqb}
-use Rattle.plain.specs.Pattern.{pick, or, Got, none, got, with_got, next_is, less_one}
+use Rattle.plain.specs.Pattern.{pick, or, got, with_got, next_is, less_one}
 use Rattle.typed.specs.Answer.{to_second, from_first}
 use Rattle.typed.proofs.Shorter.{Within, either, more, onward, less_within, address-within}
 use Rattle.plain.specs.Command.{Address, Range, here, range_of, starts_address, an_address, or_here, a_range}

@@ -1,7 +1,7 @@
 -- What is left is never longer than what was there. Assumes nothing.
-use Rattle.std.proofs.Common.{◌≡◌, ℕ, zero, suc, ◌+◌, ◌<◌, ◌≤◌, Bool, true, false, eqb, ltb, List, [], ◌∷◌, ◌++◌, length, get_or, sym, refl, subst, arith}
+use Rattle.std.proofs.Common.{◌≡◌, ℕ, zero, suc, ◌+◌, ◌≤◌, Bool, true, false, eqb, ltb, List, [], ◌∷◌, ◌++◌, length, get_or, sym, subst, arith}
 use Rattle.plain.specs.Pattern.{pick, or, Got, none, got, with_got, none_of, between, less_one}
-use Rattle.plain.specs.Command.{Address, here, address, digit, number_part, after_digits, digits_long, amount, up_to, base, offsets, an_address}
+use Rattle.plain.specs.Command.{Address, address, digit, after_digits, digits_long, amount, up_to, base, offsets, an_address}
 use Rattle.typed.proofs.Steps.{after_shorter}
 
 abbrev pub Within : {A : Type 0} → ℕ → Got ℕ A → Type 0

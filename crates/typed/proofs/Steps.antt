@@ -1,11 +1,11 @@
 -- Steps on and back, one after the other. Assumes nothing.
-use Rattle.std.proofs.Common.{◌≡◌, ℕ, zero, suc, ◌+◌, ◌-◌, ◌*◌, ◌^◌, ◌<◌, ◌≤◌, Bool, true, false, eqb, ltb, List, [], ◌∷◌, length, get_or, take, drop, sym, refl, ap, ◌∙◌, subst, ⊎_elim, mul-le-mul_right, mul_assoc, arith}
+use Rattle.std.proofs.Common.{◌≡◌, ℕ, zero, suc, ◌+◌, ◌-◌, ◌*◌, ◌^◌, ◌<◌, ◌≤◌, false, eqb, ltb, List, [], ◌∷◌, length, sym, refl, ap, ◌∙◌, ⊎_elim, mul-le-mul_right, mul_assoc, arith}
 use native.Mathlib.Nat.{pow-succ', pow-le-pow_right}
-use Rattle.std.proofs.lemmas.Bool.{cases_Bool, eq-eqb, ne_eqb, ltb-false, leb-true, and_parts}
-use Rattle.plain.specs.Pattern.{pick, Got, none, got}
+use Rattle.std.proofs.lemmas.Bool.{cases_Bool, ne_eqb, ltb-false, leb-true, and_parts}
+use Rattle.plain.specs.Pattern.{pick, none, got}
 use Rattle.plain.specs.Command.{Address, digit, starts_digit, number_part, after_digits, digits_long, amount, offsets}
 use Rattle.typed.specs.Meaning.{moved, at_place}
-use Rattle.typed.specs.Answer.{a_number, an_amount}
+use Rattle.typed.specs.Answer.{an_amount}
 use Rattle.typed.specs.declared.addresses.Place.{Place}
 use Rattle.typed.proofs.Fronts.{took, refused}
 use Rattle.typed.proofs.Digits.{worth_more, worth_none, after_more, after_none, long-more, long_none}

@@ -1,8 +1,8 @@
 -- A whole command. Assumes nothing.
-use Rattle.std.proofs.Common.{◌≡◌, ℕ, suc, ◌<◌, ◌≤◌, Bool, true, false, ◌&&◌, ltb, List, [], ◌∷◌, length, get_or, Some, None, Option, sym, refl, ap, ◌∙◌, arith}
+use Rattle.std.proofs.Common.{◌≡◌, ℕ, suc, ◌<◌, true, false, ltb, List, [], ◌∷◌, length, get_or, Some, None, Option, sym, refl, ap, ◌∙◌}
 use Rattle.std.proofs.lemmas.Bool.{and_from, lt-ltb}
-use Rattle.plain.specs.Pattern.{pick, or, every, all_bytes, Got, none, got, with_got, next_is, less_one}
-use Rattle.plain.specs.Command.{Range, Simple, Deed, Command, plain, all_lines, a_range, up_to, simple, for_many, deed, command, whole_command, reads}
+use Rattle.plain.specs.Pattern.{pick, or, all_bytes, Got, none, got, with_got, next_is, less_one}
+use Rattle.plain.specs.Command.{Range, Deed, Command, plain, all_lines, a_range, up_to, simple, for_many, deed, command, whole_command, reads}
 use Rattle.typed.specs.Answer.{whole, listed, all_of}
 use Rattle.typed.proofs.Ranges.{NotFirst, not_next}
 

@@ -1,6 +1,7 @@
 //! From the bytes typed to a command.
 //!
 //! `read` is the whole of it; what it hands back are structs and enums over parts of the bytes typed, nothing is copied.
+#![tactic(auto)]
 
 mod addresses;
 mod commands;

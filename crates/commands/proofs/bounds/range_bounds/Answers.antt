@@ -1,6 +1,6 @@
-use Rattle.std.proofs.Common.{◌≡◌, sym, refl, ap, ◌∙◌, rules}
+use Rattle.std.proofs.Common.{sym, refl, ◌∙◌, rules}
 use Rattle.std.proofs.lemmas.Result.{err_from_is_err_and}
-use Rattle.typed.specs.Meaning.{address_of, range_of}
+use Rattle.typed.specs.Meaning.{address_of}
 use Rattle.commands.specs.Resolve.{good, then, bounds, in_order, resolve_plain, resolve_range}
 use Rattle.commands.specs.Code.{bounds_as}
 use Rattle.commands.proofs.Handed.{then_lost, then-on, range_one, range-two, range_from_first}

@@ -14,15 +14,15 @@ returns c =
     let r = c.args.registers.now in
     let m = c.args.memory.now in
     let s = simple_of c.args.simple in
-    let text : c.text-given.result.now ≡ typed_text s = c.text-given.ensures ∙ ap with_newlines c.lines-given-lines.ensures in
-    let kind = c.kind-given.ensures ∙ ap lines_kind c.lines-given-lines.ensures in
+    let text : c.text_given.result.now ≡ typed_text s = c.text_given.ensures ∙ ap with_newlines c.lines_given-lines.ensures in
+    let kind = c.kind_given.ensures ∙ ap lines_kind c.lines_given-lines.ensures in
     let name = c.name_given.ensures in
-    let long = c.keep-text-text.ensures.count ∙ ap (λ t. few_of 65536 (length t)) text in
-    let named = c.keep-name-name.ensures.count ∙ ap (λ t. few_of 64 (length t)) name in
+    let long = c.keep_text-text.ensures.count ∙ ap (λ t. few_of 65536 (length t)) text in
+    let named = c.keep_name-name.ensures.count ∙ ap (λ t. few_of 64 (length t)) name in
     let went = c.went_at_once.ensures (small_of r.kept m) refl in
     record {
       registers = λ i. with_job (job (sym (plan-back c.args.plan) i) (named i) c.args.size (kind i) (long i))
           (with_walking (walking c.args.plan.span.after 0 (went i) 0) (with_putting (putting false false 0 0) r));
-      memory = c.keep-name-name.ensures.memory ∙ (λ i. name_kept (name i) (c.keep-text-text.ensures.memory i)) ∙ ap (λ t. name_kept (name_given s.deed) (extended 0 t m)) text;
-      long = c.keep-name-name.ensures.long;
+      memory = c.keep_name-name.ensures.memory ∙ (λ i. name_kept (name i) (c.keep_text-text.ensures.memory i)) ∙ ap (λ t. name_kept (name_given s.deed) (extended 0 t m)) text;
+      long = c.keep_name-name.ensures.long;
     }

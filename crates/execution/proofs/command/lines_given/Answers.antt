@@ -16,5 +16,5 @@ pub returns-in-Change : goal.returns-in-Change
 unfolding lines_given
 returns-in-Change c = ap (λ d. lines_given (deed_of d)) (sym c.in-Change.is)
 
-pub returns-in-default : goal.returns-in-default
-returns-in-default c = no_lines c.args.deed c.in-default.not-Append c.in-default.not-Insert c.in-default.not-Change
+pub returns-in_default : goal.returns-in_default
+returns-in_default c = no_lines c.args.deed c.in_default.not-Append c.in_default.not-Insert c.in_default.not-Change

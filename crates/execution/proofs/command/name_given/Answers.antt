@@ -16,5 +16,5 @@ pub returns-in-Read : goal.returns-in-Read
 unfolding name_given
 returns-in-Read c = ap (λ d. name_given (deed_of d)) (sym c.in-Read.is)
 
-pub returns-in-default : goal.returns-in-default
-returns-in-default c = no_name c.args.deed c.in-default.not-Write c.in-default.not-Edit c.in-default.not-Read
+pub returns-in_default : goal.returns-in_default
+returns-in_default c = no_name c.args.deed c.in_default.not-Write c.in_default.not-Edit c.in_default.not-Read

@@ -7,10 +7,10 @@ use Rattle.execution.proofs.Told.{says_by}
 use Rattle.execution.proofs.Obeyed.{obey_by, given_few}
 use Rattle.execution.proofs.command.obey.Goals as goal
 
-pub returns-in-default : goal.returns-in-default
-returns-in-default c =
+pub returns-in_default : goal.returns-in_default
+returns-in_default c =
     says_by (ap (λ k. refuses k c.args.registers.now c.args.memory.now) c.number.ensures
-    ∙ obey_by c.args.typed.now [] c.args.registers.now c.args.memory.now c.in-default.ensures)
+    ∙ obey_by c.args.typed.now [] c.args.registers.now c.args.memory.now c.in_default.ensures)
     (c.refuse.ensures c.args.memory.now c.args.out.now)
 
 pub command-requires : goal.command-requires

@@ -4,15 +4,15 @@ use Rattle.memory.specs.Abstract.{files_of}
 use Rattle.execution.proofs.Sums.{files-then, store_light, slot_less}
 use Rattle.execution.proofs.room.files_after.Goals as goal
 
-pub overflow-sub-result : goal.overflow-sub-result
-overflow-sub-result c =
-    omega (arith, slot_less entry_size c.in-Store.slot (files_of c.args.files c.args.memory.now), c.file-weight-weight.ensures.total, c.weight-at.ensures)
+pub overflow_sub-result : goal.overflow_sub-result
+overflow_sub-result c =
+    omega (arith, slot_less entry_size c.in-Store.slot (files_of c.args.files c.args.memory.now), c.file_weight-weight.ensures.total, c.weight_at.ensures)
 
 pub returns-in-Store : goal.returns-in-Store
 returns-in-Store c =
     let l = store_light c.args.also c.in-Store.slot c.in-Store.lines c.in-Store.size c.in-Store.is c.requires.1.1.0 in
     record {
-      total = files-then c.args.also c.in-Store.slot c.in-Store.lines c.in-Store.size c.file-weight-weight.result c.weight-at.result c.args.name
-          (files_of c.args.files c.args.memory.now) c.in-Store.is c.file-weight-weight.ensures.total c.weight-at.ensures;
-      few = omega (arith, l, c.file-weight-weight.ensures.few);
+      total = files-then c.args.also c.in-Store.slot c.in-Store.lines c.in-Store.size c.file_weight-weight.result c.weight_at.result c.args.name
+          (files_of c.args.files c.args.memory.now) c.in-Store.is c.file_weight-weight.ensures.total c.weight_at.ensures;
+      few = omega (arith, l, c.file_weight-weight.ensures.few);
     }

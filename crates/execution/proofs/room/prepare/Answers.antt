@@ -12,11 +12,11 @@ returns-then-registers c =
     says_by (ap (λ k. carry (with_carrying k r) m) c.carrying-registers.ensures ∙ prepare-busy r m c.quota-quota.result c.quota-quota.ensures c.if-registers.true)
     c.carry.ensures
 
-pub returns-then-nearly-full : goal.returns-then-nearly-full
-returns-then-nearly-full c =
-    says_by (prepare_full c.args.registers.now c.args.memory.now c.quota-quota.result c.quota-quota.ensures c.if-registers.false c.if-nearly-full.ensures)
+pub returns-then-nearly_full : goal.returns-then-nearly_full
+returns-then-nearly_full c =
+    says_by (prepare_full c.args.registers.now c.args.memory.now c.quota-quota.result c.quota-quota.ensures c.if-registers.false c.if-nearly_full.ensures)
     (c.begin_other.ensures c.args.memory.now c.args.out.now)
 
 pub returns : goal.returns
 returns c =
-    says_by (prepare_roomy c.args.registers.now c.args.memory.now c.if-registers.false c.if-nearly-full.ensures) c.start_pass.ensures
+    says_by (prepare_roomy c.args.registers.now c.args.memory.now c.if-registers.false c.if-nearly_full.ensures) c.start_pass.ensures

@@ -15,14 +15,14 @@ returns-then-numbered c =
     let bs = c.args.piece.bytes.now in
     let t = text_of r.walking.bytes m in
     let n : r.walking.line + 1 ≡ suc r.walking.line = omega arith in
-    let e : c.put-number.new.out ≡ eight (suc r.walking.line) = c.put-number.ensures ∙ ap eight n in
-    let k : length c.put-number.new.out ≡ 8 = ap length e ∙ eight-long (suc r.walking.line) in
-    let row : c.put-number.new.out ++ (t ++ bs) ≡ row_of c.args.numbered (piece_of c.args.piece) r m =
+    let e : c.put_number.new.out ≡ eight (suc r.walking.line) = c.put_number.ensures ∙ ap eight n in
+    let k : length c.put_number.new.out ≡ 8 = ap length e ∙ eight-long (suc r.walking.line) in
+    let row : c.put_number.new.out ++ (t ++ bs) ≡ row_of c.args.numbered (piece_of c.args.piece) r m =
     ap (λ x. x ++ (t ++ bs)) e ∙ ap (λ b. pick b (eight (suc r.walking.line) ++ (t ++ bs)) (t ++ bs)) (sym c.if-numbered.true) in
     record {
-      long = sym (length-append c.put-number.new.out (t ++ bs) ∙ (λ i. k i + row-long r.walking.bytes m bs c.requires.0 c.requires.1.1.0.walking.bytes i)) ∙ ap length row;
-      row = row_laid r.walking.bytes (length (c.put-number.new.out ++ drop 8 out) - 8) t bs out c.put-number.new.out c.lay-text.new.row k (omega arith) refl
-          c.lay-text.ensures ∙ ap (λ x. x ++ drop (8 + (r.walking.bytes + length bs)) out) row;
+      long = sym (length-append c.put_number.new.out (t ++ bs) ∙ (λ i. k i + row-long r.walking.bytes m bs c.requires.0 c.requires.1.1.0.walking.bytes i)) ∙ ap length row;
+      row = row_laid r.walking.bytes (length (c.put_number.new.out ++ drop 8 out) - 8) t bs out c.put_number.new.out c.lay_text.new.row k (omega arith) refl
+          c.lay_text.ensures ∙ ap (λ x. x ++ drop (8 + (r.walking.bytes + length bs)) out) row;
     }
 
 pub returns : goal.returns
@@ -34,5 +34,5 @@ returns c =
     ap (λ b. pick b (eight (suc r.walking.line) ++ (text_of r.walking.bytes m ++ bs)) (text_of r.walking.bytes m ++ bs)) (sym c.if-numbered.false) in
     record {
       long = sym (row-long r.walking.bytes m bs c.requires.0 c.requires.1.1.0.walking.bytes) ∙ ap length row;
-      row = c.lay-text-2.ensures ∙ ap (λ t. t ++ drop (r.walking.bytes + length bs) c.args.out.now) row;
+      row = c.lay_text-2.ensures ∙ ap (λ t. t ++ drop (r.walking.bytes + length bs) c.args.out.now) row;
     }

@@ -1,4 +1,4 @@
-use Rattle.std.proofs.Common.{length, replicate, ap, ◌∙◌, arith}
+use Rattle.std.proofs.Common.{replicate, ap, ◌∙◌, arith}
 use Rattle.memory.specs.Sections.{cleared, with_words}
 use Rattle.memory.proofs.Parted.{length_part}
 use Rattle.memory.proofs.directory.clear.Goals as goal

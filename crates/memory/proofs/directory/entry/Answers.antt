@@ -1,5 +1,5 @@
-use Rattle.std.proofs.Common.{◌≡◌, sym, ap, ◌∙◌, arith}
-use Rattle.memory.specs.Sections.{entry_at, entry_position, entries_in}
+use Rattle.std.proofs.Common.{ap, ◌∙◌}
+use Rattle.memory.specs.Sections.{entry_position}
 use Rattle.memory.proofs.Entries.{entry-there, entry_past}
 use Rattle.memory.proofs.directory.entry.Goals as goal
 

@@ -1,5 +1,4 @@
 use Rattle.std.proofs.Common.{◌-◌, take, drop, Some, None, refl}
-use Rattle.lines.specs.Moves.{edited}
 use Rattle.memory.specs.Sections.{entries_in, with_splice, copied_spliced}
 use Rattle.memory.proofs.Splicing.{copy_left}
 use Rattle.memory.proofs.directory.splice_copied.Goals as goal

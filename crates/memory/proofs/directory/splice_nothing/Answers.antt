@@ -1,5 +1,5 @@
 use Rattle.std.proofs.Common.{[], Some, None, refl}
-use Rattle.memory.specs.Sections.{entries_in, with_splice, nothing_spliced}
+use Rattle.memory.specs.Sections.{with_splice, nothing_spliced}
 use Rattle.memory.proofs.Splicing.{splice_left}
 use Rattle.memory.proofs.directory.splice_nothing.Goals as goal
 

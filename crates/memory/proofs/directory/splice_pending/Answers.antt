@@ -1,4 +1,4 @@
-use Rattle.std.proofs.Common.{◌≡◌, ◌+◌, ◌≤◌, length, refl, ap, ◌∙◌, arith}
+use Rattle.std.proofs.Common.{◌≡◌, length, refl, ◌∙◌, arith}
 use Rattle.memory.specs.Sections.{pending_spliced}
 use Rattle.memory.proofs.Splicing.{words_long, room_can, put_many, put_none, put_all}
 use Rattle.memory.proofs.Parted.{length_with}

@@ -1,8 +1,7 @@
-use Rattle.std.proofs.Common.{◌≡◌, ℕ, ◌+◌, ◌-◌, ◌≤◌, length, sym, refl, ap, ◌∙◌, arith}
-use Rattle.engine.specs.Packing.{records_of}
+use Rattle.std.proofs.Common.{◌+◌, ◌-◌, refl, arith}
 use Rattle.memory.specs.Abstract.{text_of}
 use Rattle.memory.proofs.Texting.{text-long}
-use Rattle.memory.proofs.Counting.{Summed, summed-on, summed-place, summed_all, ends_later, weight_bound, records_bound}
+use Rattle.memory.proofs.Counting.{summed-on, summed-place, summed_all, ends_later, weight_bound}
 use Rattle.memory.proofs.measures.lines_weight.Goals as goal
 
 pub line_end-end-requires : goal.line_end-end-requires

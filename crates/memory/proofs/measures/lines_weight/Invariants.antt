@@ -1,6 +1,5 @@
 use Rattle.std.proofs.Common.{◌+◌, ◌-◌}
 use Rattle.plain.specs.Pattern.{pick}
-use Rattle.engine.specs.Packing.{records_of}
 use Rattle.memory.specs.Abstract.{text_of}
 use Rattle.memory.proofs.Counting.{Summed}
 use Rattle.memory.proofs.measures.lines_weight.Given as goal

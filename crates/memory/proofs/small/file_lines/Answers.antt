@@ -1,4 +1,4 @@
-use Rattle.std.proofs.Common.{◌+◌, ◌≤◌, refl, ap, ◌∙◌, arith}
+use Rattle.std.proofs.Common.{◌+◌, refl, ap, ◌∙◌, arith}
 use Rattle.memory.specs.Abstract.{files_at}
 use Rattle.memory.specs.Sections.{files_in}
 use Rattle.memory.proofs.Filing.{added_more}

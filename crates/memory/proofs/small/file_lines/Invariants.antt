@@ -1,6 +1,5 @@
 use Rattle.std.proofs.Common.{◌≡◌, ◌*◌, ◌≤◌}
 use Rattle.plain.specs.Pattern.{added_up}
-use Rattle.commands.specs.Smalls.{entry_size}
 use Rattle.memory.specs.Abstract.{files_of}
 use Rattle.memory.proofs.small.file_lines.Given as goal
 

@@ -1,7 +1,7 @@
-use Rattle.std.proofs.Common.{◌≡◌, ◌+◌, ◌*◌, ◌≤◌, length, sym, refl, ap, ◌∙◌, arith}
+use Rattle.std.proofs.Common.{◌≡◌, ◌+◌, ◌*◌, length, sym, refl, ap, ◌∙◌, arith}
 use Rattle.memory.specs.Registers.{part}
 use Rattle.commands.specs.Smalls.{entry_size}
-use Rattle.memory.specs.Abstract.{files_at, file_at, file_head}
+use Rattle.memory.specs.Abstract.{files_at, file_at}
 use Rattle.memory.specs.Sections.{files_in}
 use Rattle.memory.proofs.Filing.{added_more, name-long}
 use Rattle.memory.proofs.Parted.{length_part}

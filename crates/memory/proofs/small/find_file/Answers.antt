@@ -1,4 +1,4 @@
-use Rattle.std.proofs.Common.{◌≡◌, ℕ, ◌+◌, ◌*◌, ◌≤◌, Bool, true, false, List, map, take, drop, sym, refl, ap, ◌∙◌, arith}
+use Rattle.std.proofs.Common.{◌≡◌, ◌+◌, ◌*◌, true, false, map, drop, sym, ap, ◌∙◌, arith}
 use Rattle.plain.specs.Pattern.{same}
 use Rattle.commands.specs.Plan.{look_up, slot_of}
 use Rattle.memory.specs.Registers.{part}

@@ -1,4 +1,4 @@
-use Rattle.std.proofs.Common.{length, sym, refl, ap}
+use Rattle.std.proofs.Common.{length, refl, ap}
 use Rattle.std.proofs.lemmas.Bool.{le-leb, lt-leb}
 use Rattle.memory.specs.Sections.{name_kept, with_name}
 use Rattle.memory.proofs.small.keep_name.Goals as goal

@@ -1,4 +1,3 @@
-use Rattle.std.proofs.Common.{arith}
 use Rattle.memory.proofs.Weighing.{oldest_none, oldest_first}
 use Rattle.memory.proofs.small.oldest.Goals as goal
 

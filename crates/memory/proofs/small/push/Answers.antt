@@ -1,4 +1,4 @@
-use Rattle.memory.proofs.Weighing.{push-more, push_last}
+use Rattle.memory.proofs.Weighing.{push_last}
 use Rattle.memory.proofs.small.push.Goals as goal
 
 pub returns : goal.returns

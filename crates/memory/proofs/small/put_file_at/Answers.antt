@@ -1,4 +1,4 @@
-use Rattle.std.proofs.Common.{◌≡◌, ℕ, ◌+◌, ◌-◌, ◌*◌, take, drop, ap, ◌∙◌, arith}
+use Rattle.std.proofs.Common.{◌≡◌, ◌+◌, ◌-◌, ◌*◌, take, drop, ap, ◌∙◌, arith}
 use Rattle.memory.specs.Registers.{with_part}
 use Rattle.memory.specs.Sections.{file_numbers}
 use Rattle.memory.proofs.small.put_file_at.Goals as goal

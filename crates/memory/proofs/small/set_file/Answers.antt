@@ -1,4 +1,4 @@
-use Rattle.std.proofs.Common.{◌≡◌, ℕ, ◌*◌, ◌<◌, ◌≤◌, length, Some, None, sym, refl, ap, ◌∙◌, arith}
+use Rattle.std.proofs.Common.{◌≡◌, ◌*◌, length, Some, refl, ap, ◌∙◌, arith}
 use Rattle.plain.specs.Device.{lesser}
 use Rattle.memory.specs.Registers.{part, with_part}
 use Rattle.memory.specs.Sections.{files_in, with_files, file_numbers, with_file, file_set}

@@ -1,4 +1,4 @@
-use Rattle.std.proofs.Common.{◌≡◌, ◌+◌, ◌-◌, ◌++◌, length, take, drop, sym, ap, ◌∙◌, arith}
+use Rattle.std.proofs.Common.{◌≡◌, ◌+◌, ◌-◌, ◌++◌, length, take, drop, ap, ◌∙◌, arith}
 use Rattle.memory.specs.Sections.{laid_low}
 use Rattle.memory.proofs.Texting.{laid_front}
 use Rattle.memory.proofs.text.lay_from.Goals as goal

@@ -1,4 +1,4 @@
-use Rattle.std.proofs.Common.{◌≡◌, ◌++◌, take, drop}
+use Rattle.std.proofs.Common.{◌≡◌, take}
 use Rattle.memory.specs.Sections.{laid_low}
 use Rattle.memory.proofs.text.lay_low.Given as goal
 

@@ -1,4 +1,4 @@
-use Rattle.std.proofs.Common.{◌≡◌, ℕ, ◌≤◌, List, map, length, drop, sym, refl, ap, ◌∙◌, arith}
+use Rattle.std.proofs.Common.{◌≡◌, ℕ, ◌≤◌, List, map, length, drop, sym, ap, ◌∙◌, arith}
 use Rattle.memory.specs.Abstract.{text_of, line_end}
 use Rattle.memory.specs.Sections.{low, newline}
 use Rattle.memory.proofs.Texting.{whole-end, text-long}

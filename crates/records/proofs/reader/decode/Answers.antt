@@ -1,4 +1,4 @@
-use Rattle.std.proofs.Common.{◌≡◌, sym, ap, ◌∙◌, arith}
+use Rattle.std.proofs.Common.{sym, ◌∙◌, arith}
 use Rattle.journal.specs.Log.{head, line, copy}
 use Rattle.records.proofs.Pages.{decoded, decoded_open, decoded_other}
 use Rattle.records.proofs.reader.decode.Goals as goal

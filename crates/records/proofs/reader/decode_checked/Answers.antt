@@ -1,4 +1,4 @@
-use Rattle.std.proofs.Common.{◌≡◌, sym, ap, ◌∙◌, arith}
+use Rattle.std.proofs.Common.{sym, ap, ◌∙◌, arith}
 use Rattle.records.specs.Values.{rec_of}
 use Rattle.records.proofs.Digits.{bytes_all}
 use Rattle.records.proofs.Checks.{read_checked, commit_kept, commit_broken, others_kept}

@@ -1,4 +1,4 @@
-use Rattle.std.proofs.Common.{◌≡◌, ◌≤◌, length, sym, ap, subst}
+use Rattle.std.proofs.Common.{◌≤◌, length, sym, ap, subst}
 use Rattle.journal.specs.Log.{Piece, piece_in}
 use Rattle.records.proofs.Read.{piece-short}
 use Rattle.records.proofs.reader.piece_read.Goals as goal

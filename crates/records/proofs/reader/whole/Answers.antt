@@ -1,4 +1,4 @@
-use Rattle.std.proofs.Common.{◌≡◌, length, sym, ◌∙◌}
+use Rattle.std.proofs.Common.{length, sym, ◌∙◌}
 use Rattle.std.proofs.lemmas.Bool.{lt-leb, leb-true}
 use Rattle.records.proofs.Pages.{short_open}
 use Rattle.records.proofs.reader.whole.Goals as goal

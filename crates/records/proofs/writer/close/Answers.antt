@@ -1,4 +1,4 @@
-use Rattle.std.proofs.Common.{◌≡◌, ◌-◌, ◌++◌, length, drop, replicate, ap, ◌∙◌, arith}
+use Rattle.std.proofs.Common.{◌-◌, length, replicate, ap, ◌∙◌, arith}
 use lib.ListN.{length-map}
 use Rattle.records.specs.Values.{low_bytes}
 use Rattle.records.proofs.Writing.{closed_is, rest_long}

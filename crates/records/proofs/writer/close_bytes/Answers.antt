@@ -1,4 +1,4 @@
-use Rattle.std.proofs.Common.{◌≡◌, ◌-◌, length, replicate, refl, ap, ◌∙◌, arith}
+use Rattle.std.proofs.Common.{◌-◌, length, replicate, refl, ap, ◌∙◌, arith}
 use Rattle.records.proofs.Writing.{closed_is, rest_long}
 use Rattle.records.proofs.writer.close_bytes.Goals as goal
 

@@ -1,4 +1,4 @@
-use Rattle.std.proofs.Common.{◌≡◌, [], ◌∷◌, get_or, ap, ◌∙◌, arith}
+use Rattle.std.proofs.Common.{[], ◌∷◌, get_or, ap, ◌∙◌, arith}
 use Rattle.journal.specs.Log.{Piece, piece_in}
 use Rattle.records.specs.Checked.{checked_record_of}
 use Rattle.records.specs.Values.{piece_of}

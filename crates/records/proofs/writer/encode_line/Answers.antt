@@ -1,4 +1,4 @@
-use Rattle.std.proofs.Common.{◌≡◌, [], ◌∷◌, ◌++◌, get_or, drop, refl, ap, ◌∙◌, arith}
+use Rattle.std.proofs.Common.{[], ◌∷◌, ◌++◌, get_or, drop, refl, ap, ◌∙◌, arith}
 use Rattle.records.specs.Pages.{two, page_of}
 use Rattle.records.specs.Values.{low_bytes}
 use Rattle.records.proofs.Writing.{page-closed}

@@ -1,6 +1,4 @@
-use Rattle.std.proofs.Common.{◌≡◌, [], ◌∷◌, ◌++◌, take, drop, set, refl, ap, ◌∙◌, arith}
-use borrow.Rule.Slice.PartMut.{put_mid}
-use Rattle.records.specs.Pages.{four, recopied}
+use Rattle.std.proofs.Common.{◌∙◌, arith}
 use Rattle.records.proofs.Writing.{recopied_written}
 use Rattle.records.proofs.writer.line_to_copy.Goals as goal
 

@@ -10,10 +10,10 @@ pub returns : goal.returns
 unfolding fresh_first ActTold
 returns c =
     let r = c.args.registers.now in
-    let tapes = c.one-tape-registers.ensures in
-    let kept = c.nothing-kept-registers.ensures in
+    let tapes = c.one_tape-registers.ensures in
+    let kept = c.nothing_kept-registers.ensures in
     λ m. record {
       registers = λ i. in_phase FreshHead (with_kept (kept i) (with_tapes (tapes i) r));
       memory = refl;
-      act = (refl, head-laid 1 1 0 c.args.out.now c.encode-head.new.out refl c.encode-head.ensures);
+      act = (refl, head-laid 1 1 0 c.args.out.now c.encode_head.new.out refl c.encode_head.ensures);
     }

@@ -9,7 +9,7 @@ use Rattle.recovery.proofs.heads.wake.Goals as goal
 pub returns : goal.returns
 unfolding wake ActTold
 returns c =
-    let tapes = c.one-tape.ensures in
+    let tapes = c.one_tape.ensures in
     let kept = c.nothing_kept.ensures in
     let plan = c.no_plan.ensures in
     λ m out. record {

@@ -10,7 +10,7 @@ unfolding woke_first ActTold
 returns c =
     let r = c.args.registers.now in
     λ m out. record {
-      registers = ap (λ g. in_phase WakeSecond (with_tapes (with_generation g r.tapes) r)) c.head-generation.ensures;
+      registers = ap (λ g. in_phase WakeSecond (with_tapes (with_generation g r.tapes) r)) c.head_generation.ensures;
       memory = refl;
       act = (refl, refl);
     }

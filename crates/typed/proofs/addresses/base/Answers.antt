@@ -1,4 +1,4 @@
-use Rattle.std.proofs.Common.{◌≡◌, ◌<◌, ◌≤◌, [], length, get_or, sym, refl, ap, ◌∙◌, ⊎_elim, arith, rules, ltb-false, ltb-true}
+use Rattle.std.proofs.Common.{◌<◌, ◌≤◌, [], length, get_or, sym, refl, ap, ◌∙◌, ⊎_elim, arith, rules, ltb-false, ltb-true}
 use Rattle.plain.specs.Pattern.{none, got}
 use Rattle.plain.specs.Command.{here, address, up_to, base}
 use Rattle.typed.specs.Answer.{a_number}

@@ -1,4 +1,4 @@
-use Rattle.std.proofs.Common.{◌≡◌, ◌<◌, ◌∷◌, length, get_or, refl, ap, arith, rules, ltb-false, ltb-true}
+use Rattle.std.proofs.Common.{length, get_or, refl, ap, arith, rules, ltb-false, ltb-true}
 use Rattle.typed.proofs.Fronts.{tail_of, front, no_front}
 use Rattle.typed.proofs.Steps.{small, shorter, on-more, back_more, stopped, cut_off, ended}
 use Rattle.typed.proofs.addresses.offsets.Goals as goal

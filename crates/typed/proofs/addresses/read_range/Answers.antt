@@ -1,4 +1,4 @@
-use Rattle.std.proofs.Common.{◌≡◌, ◌<◌, ◌⊎◌, length, get_or, sym, ap, ◌∙◌, ⊎_elim, arith, rules, ltb-true}
+use Rattle.std.proofs.Common.{◌≡◌, ◌⊎◌, get_or, sym, ap, ◌∙◌, ⊎_elim, arith, rules, ltb-true}
 use Rattle.plain.specs.Command.{a_range}
 use Rattle.typed.proofs.Fronts.{tail_of, front}
 use Rattle.typed.proofs.Ranges.{NotFirst, percent, comma, nowhere, somewhere}

@@ -1,7 +1,6 @@
-use Rattle.std.proofs.Common.{◌≡◌, ◌+◌, ◌-◌, [], length, take, drop, sym, ap, ◌∙◌, arith}
+use Rattle.std.proofs.Common.{◌≡◌, ◌+◌, ◌-◌, take, sym, ◌∙◌, arith}
 use Rattle.std.proofs.lemmas.List.{take_rest}
 use Rattle.plain.specs.Pattern.{got}
-use Rattle.plain.specs.Command.{up_to}
 use Rattle.typed.proofs.Ends.{found_at, plain_at, escape_at, never}
 use Rattle.typed.proofs.addresses.up_to.Goals as goal
 use Rattle.typed.proofs.addresses.up_to.Goals.{then-cs-i-eq92, else-cs-i-eq92}

@@ -1,4 +1,4 @@
-use Rattle.std.proofs.Common.{◌≡◌, [], length, sym, ap, ◌∙◌, arith, rules}
+use Rattle.std.proofs.Common.{[], length, sym, ap, ◌∙◌, arith, rules}
 use Rattle.plain.specs.Pattern.{pick, none, got, with_got}
 use Rattle.plain.specs.Command.{all_lines, up_to, simple, for_many}
 use Rattle.typed.specs.Meaning.{range_of}

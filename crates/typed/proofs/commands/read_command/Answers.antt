@@ -1,4 +1,4 @@
-use Rattle.std.proofs.Common.{◌≡◌, [], length, get_or, sym, ap, ◌∙◌, arith, rules, ltb-true}
+use Rattle.std.proofs.Common.{[], length, ap, ◌∙◌, arith, rules, ltb-true}
 use Rattle.plain.specs.Pattern.{none, got}
 use Rattle.plain.specs.Command.{a_range, deed}
 use Rattle.typed.specs.Meaning.{range_of, deed_of}

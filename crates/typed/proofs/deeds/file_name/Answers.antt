@@ -1,4 +1,4 @@
-use Rattle.std.proofs.Common.{◌≡◌, ◌<◌, length, get_or, sym, refl, ap, ◌∙◌, arith, rules, ltb-false, ltb-true, true-eqb, false-eqb}
+use Rattle.std.proofs.Common.{sym, ap, ◌∙◌, arith, rules, true-eqb, false-eqb}
 use Rattle.plain.specs.Command.{a_file}
 use Rattle.typed.proofs.Fronts.{tail_of, front}
 use Rattle.typed.proofs.Names.{without, within, a_name, no_name}

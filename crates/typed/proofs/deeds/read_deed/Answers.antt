@@ -1,4 +1,4 @@
-use Rattle.std.proofs.Common.{◌≡◌, [], length, get_or, sym, refl, ap, ◌∙◌, arith, rules, ltb-false, ltb-true}
+use Rattle.std.proofs.Common.{[], get_or, sym, refl, ap, ◌∙◌, arith, rules, ltb-false, ltb-true}
 use Rattle.plain.specs.Pattern.{got}
 use Rattle.plain.specs.Command.{append, insert, change, delete, join, print, number, where_is, undo, redo, files, move, copy, save, edit, load, given, ended, or_here, a_file, deed}
 use Rattle.typed.specs.Meaning.{address_of, deed_of}

@@ -1,5 +1,4 @@
-use Rattle.std.proofs.Common.{◌≡◌, ◌≤◌, length, get_or, sym, refl, ap, ◌∙◌, arith, rules, ltb-false, ltb-true, true-eqb, false-eqb}
-use Rattle.typed.proofs.Fronts.{tail_of, front}
+use Rattle.std.proofs.Common.{◌≡◌, length, get_or, sym, ◌∙◌, arith, rules, ltb-false, ltb-true, true-eqb, false-eqb}
 use Rattle.typed.proofs.Names.{the_g, other, chosen, not_chosen, too_long}
 use Rattle.typed.proofs.deeds.which_match.Goals as goal
 use Rattle.typed.proofs.deeds.which_match.Goals.{in_default-via-then-cs-lt2+in_default-1, in_default-via-else-cs-lt2, else-n-ge-FIRST_MATCH-via-then-n-ge-FIRST_MATCH+then-is_empty+else-cs-le3, else-n-ge-FIRST_MATCH-via-then-n-ge-FIRST_MATCH+else-is_empty, else-n-ge-FIRST_MATCH-via-else-n-ge-FIRST_MATCH}

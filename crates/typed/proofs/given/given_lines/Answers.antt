@@ -1,4 +1,4 @@
-use Rattle.std.proofs.Common.{sym, ap, arith, rules, ltb-false}
+use Rattle.std.proofs.Common.{sym, ap, rules}
 use Rattle.plain.specs.Command.{given}
 use Rattle.typed.proofs.Fronts.{front}
 use Rattle.typed.proofs.given.given_lines.Goals as goal

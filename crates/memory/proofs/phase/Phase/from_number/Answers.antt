@@ -1,4 +1,4 @@
-use Rattle.std.proofs.Common.{◌≡◌, sym, refl, ap, arith, rules}
+use Rattle.std.proofs.Common.{sym, ap, arith}
 use Rattle.memory.proofs.Storing.{phase_else}
 use Rattle.memory.specs.Numbers.{phase_of}
 use Rattle.memory.proofs.phase.Phase.from_number.Goals as goal
