@@ -40,14 +40,14 @@ news-fits u f = record { count = f.count; current = f.current; weight = f.weight
 piece-fits : (j : ℕ) (b : Piece) → j ≤ 2 → PieceFits j b → pages.PieceFits j b
 piece-fits j b l f = record { part = omega arith; long = f.long; share_is = f.here; bytes = f.bytes }
 
-record_fits : (r : Rec News) → RecordFits r → pages.RecFits r
+pub record_fits : (r : Rec News) → RecordFits r → pages.RecFits r
 record_fits (head g n) f = let a = f.1 in (omega arith, f.2)
 record_fits (line j b) f = piece-fits j b f.0 f.1
 record_fits (copy i j b) f = (f.0, piece-fits j b f.1 f.2)
 record_fits (commit c u) f = (splice-fits c f.0, news-fits u f.1)
 record_fits broken f = f
 
-pub codec : Codec
+unfoldable pub codec : Codec
 codec = record {
   reading = record_of;
   reads = λ r f. page-back r (record_fits r f);
@@ -57,14 +57,14 @@ codec = record {
 }
 
 -- THE SAME, where what is read back is checked
-beside-of : (r : Rec News) → RecordFits r → Beside r
+pub beside-of : (r : Rec News) → RecordFits r → Beside r
 beside-of (head g n) f = tt
 beside-of (line j b) f = tt
 beside-of (copy i j b) f = tt
 beside-of (commit c u) f = f.0.beside
 beside-of broken f = tt
 
-pub codec_checked : Codec
+unfoldable pub codec_checked : Codec
 codec_checked = record {
   reading = checked_record_of;
   reads = λ r f. checked_back r (record_fits r f) (beside-of r f);

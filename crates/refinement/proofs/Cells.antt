@@ -195,8 +195,8 @@ next_cells commit_fast x h = by_pick x.tapes.busy (machine.start_pass true x) (m
 next_cells count_shown x h = tt
 next_cells file_shown x h = files_cells (suc x.carrying.index) x
 
-pub cells_stay : (x : House) (ev : Event) → Cells x → Cells (machine.answers x ev).state
-unfolding machine.answers
+pub cells_stay : (x : House) (ev : Event) → Cells x → Cells (machine.answers_by checked_record_of x ev).state
+unfolding machine.answers_by
 cells_stay x (on room) h = tt
 cells_stay x (said t) h = obey_cells (reads t) x
 cells_stay x (page p) h = record_cells x.phase (checked_record_of p) x refl h

@@ -133,7 +133,7 @@ module _ (r : Registers) (m : List ℕ) (h : length m ≡ 262144) (p : Page) whe
   kept-bounded (line zero q) e b = record { entries = b.kept.entries; pending = pending_few r.kept.pending; count = b.kept.count; current = b.kept.current; weight = b.kept.weight; ring = b.kept.ring; files = b.kept.files }
   kept-bounded (line (suc j) q) e b = b.kept
   kept-bounded (copy i j q) e b = b.kept
-  kept-bounded (commit c u) e b = subst (λ v. TameKept (kept_by r.kept c v)) (news-read u (commit-words p c u e).1) (tame_kept_by r.kept c u b.kept)
+  kept-bounded (commit c u) e b = subst (λ v. TameKept (kept_by r.kept c v)) (news-read u (commit-words p c u e).news) (tame_kept_by r.kept c u b.kept)
   kept-bounded broken e b = b.kept
 
   memory_kept : (c : Rec News) → steadiness.Kept m (memory_with c r m)
@@ -209,7 +209,7 @@ module _ (r : Registers) (m : List ℕ) (h : length m ≡ 262144) (p : Page) whe
       }
   noted (copy i (suc j) q) e b f = record { store = refl; text = λ n. refl; name = λ n. refl }
   noted (commit c u) e b f =
-      let a = commit_means r.tapes.active r.tapes.used r.kept c u m h b.kept (apart c.from c.gone c.source (commit_beside p c u e)) (slot_read u.also (commit-words p c u e).1.also) f.store in
+      let a = commit_means r.tapes.active r.tapes.used r.kept c u m h b.kept (apart c.from c.gone c.source (commit_beside p c u e)) (slot_read u.also (commit-words p c u e).news.also) f.store in
       record { store = a.store; text = a.text; name = a.name }
   noted broken e b f = record { store = refl; text = λ n. refl; name = λ n. refl }
 

@@ -1,0 +1,6 @@
+pub mod Eight
+pub mod Tamed
+pub mod Answers
+pub mod Right
+pub mod Steps
+pub mod Dispatch
