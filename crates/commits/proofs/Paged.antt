@@ -3,7 +3,7 @@ use Rattle.std.proofs.Common.{◌≡◌, ℕ, ◌≤◌, List, ◌++◌, length,
 use Rattle.std.proofs.lemmas.List.{length-take, length-map}
 use Rattle.journal.specs.Log.{Splice, commit}
 use Rattle.journal.specs.Small.{News}
-use Rattle.records.specs.Pages.{page_of, closed, entry_in, name_in}
+use Rattle.records.specs.Pages.{page_of, entry_in, name_in}
 use Rattle.records.specs.Checked.{cut_news, cut_splice}
 use Rattle.records.proofs.Digits.{length-closed}
 use Rattle.records.proofs.Read.{page_cut}

@@ -1,5 +1,5 @@
 -- A part of a line, from cells of the text. Assumes nothing.
-use Rattle.std.proofs.Common.{◌≡◌, ℕ, zero, suc, ◌+◌, ◌-◌, ◌*◌, ◌/◌, ◌%◌, ◌≤◌, min, List, [], ◌∷◌, ◌++◌, length, take, drop, sym, ap, ◌∙◌, inl, inr, arith}
+use Rattle.std.proofs.Common.{◌≡◌, ℕ, zero, suc, ◌+◌, ◌-◌, ◌*◌, ◌%◌, ◌≤◌, min, List, [], ◌∷◌, ◌++◌, length, take, drop, sym, ap, ◌∙◌, inl, inr, arith}
 use lib.Seq.{take-nil}
 use Rattle.std.proofs.lemmas.List.{length-take, length-drop, length-take-le, drop-drop}
 use Rattle.std.proofs.lemmas.Bool.{cases_lt}

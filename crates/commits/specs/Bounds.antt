@@ -8,10 +8,6 @@ use Rattle.commands.specs.declared.plan.Rows.TheVariants as rows
 use Rattle.commands.specs.declared.plan.Source.{Source}
 use Rattle.commands.specs.declared.plan.Source.TheVariants as source
 use Rattle.memory.specs.declared.tapes.Tapes.{Tapes}
-use Rattle.memory.specs.declared.kept.Kept.{Kept}
-use Rattle.memory.specs.declared.job.Job.{Job}
-use Rattle.memory.specs.declared.walking.Walking.{Walking}
-use Rattle.memory.specs.declared.walking.Putting.{Putting}
 use Rattle.memory.specs.declared.carrying.Carrying.{Carrying}
 use Rattle.memory.specs.declared.registers.Registers.{Registers}
 use Rattle.memory.specs.Registers.{TameKept}

@@ -1,12 +1,11 @@
 -- What a commit says, from the registers and the memory. Assumes nothing: these are definitions.
-use Rattle.std.specs.Prelude.{ℕ, suc, ◌+◌, ◌-◌, Bool, true, false, not, List, [], length, nat_lt}
-use Rattle.plain.specs.Pattern.{pick, or}
+use Rattle.std.specs.Prelude.{ℕ, ◌-◌, List, nat_lt}
+use Rattle.plain.specs.Pattern.{pick}
 use Rattle.plain.specs.Device.{lesser}
 use Rattle.journal.specs.Log.{Source, no_entries, new_entries, copied, Splice, splice}
 use Rattle.journal.specs.Small as small
 use Rattle.journal.specs.Small.{entry}
 use Rattle.records.specs.Checked.{cut_news}
-use Rattle.commands.specs.Code.{splice_as}
 use Rattle.engine.specs.Machine as machine
 use Rattle.memory.specs.declared.kept.Kept.{Kept}
 use Rattle.memory.specs.declared.registers.Registers.{Registers}

@@ -1,6 +1,6 @@
 -- Putting on what a command brings: its lines, then its commit, on the tape that counts, and then on the other one too if entries are being carried there.
 -- Assumes nothing: these are definitions.
-use Rattle.std.specs.Prelude.{ℕ, zero, suc, ◌+◌, ◌-◌, ◌*◌, ◌%◌, Bool, true, false, not, List, [], ◌∷◌, ◌++◌, length, take, drop, ◌==◌, nat_lt}
+use Rattle.std.specs.Prelude.{ℕ, suc, ◌-◌, ◌%◌, Bool, true, not, List, take, drop, ◌==◌, nat_lt}
 use Rattle.plain.specs.Pattern.{pick, or}
 use Rattle.plain.specs.Device.{lesser}
 use Rattle.plain.specs.Run.{put_on, fasten}

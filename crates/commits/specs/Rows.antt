@@ -1,5 +1,5 @@
 -- The end of a command: rows that are shown last, and how it ends. Assumes nothing: these are definitions.
-use Rattle.std.specs.Prelude.{ℕ, suc, ◌+◌, Bool, true, false, List, [], ◌∷◌, ◌++◌, length, nat_lt, slice_index_or}
+use Rattle.std.specs.Prelude.{ℕ, List, nat_lt, slice_index_or}
 use Rattle.plain.specs.Pattern.{pick, eight}
 use Rattle.plain.specs.Run.{shows, done, refused}
 use Rattle.commands.specs.declared.plan.Rows.{Rows}

@@ -1,5 +1,5 @@
 -- Registers with one part changed. Assumes nothing: these are definitions.
-use Rattle.std.specs.Prelude.{ℕ, zero, suc, ◌+◌, ◌-◌, Bool, true, false}
+use Rattle.std.specs.Prelude.{ℕ, ◌-◌, Bool}
 use Rattle.commands.specs.declared.plan.Plan.{Plan}
 use Rattle.memory.specs.declared.phase.Phase.{Phase}
 use Rattle.memory.specs.declared.job.Lines.{Lines}

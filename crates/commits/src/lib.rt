@@ -1,4 +1,5 @@
 //! The end of a command: its lines and its commit are put on the tapes, and its last rows are shown.
+#![tactic(auto)]
 
 mod commit;
 mod line_parts;

@@ -1,5 +1,5 @@
 -- Carrying entries to the other tape, and the change of tapes when none is left. Assumes nothing: these are definitions.
-use Rattle.std.specs.Prelude.{ℕ, zero, suc, ◌+◌, ◌-◌, ◌%◌, Bool, true, false, List, [], ◌∷◌, length, ◌==◌, nat_lt, slice_index_or}
+use Rattle.std.specs.Prelude.{ℕ, suc, ◌+◌, ◌-◌, ◌%◌, Bool, true, false, List, ◌==◌, nat_lt, slice_index_or}
 use Rattle.plain.specs.Pattern.{pick}
 use Rattle.plain.specs.Device.{Page}
 use Rattle.plain.specs.Run.{read, put_on, fasten, begin}

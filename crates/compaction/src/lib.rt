@@ -1,4 +1,5 @@
 //! Compaction: entries are carried to the other tape, which then counts.
+#![tactic(auto)]
 
 mod entries;
 mod tapes;

@@ -1,6 +1,5 @@
 -- What the machine does on its registers and memory is what it does as a record of named fields. Assumes nothing.
-use Rattle.std.proofs.Common.{◌≡◌, ℕ, suc, List, length, refl}
-use Rattle.plain.specs.Command.{reads}
+use Rattle.std.proofs.Common.{◌≡◌, ℕ, suc, List, length}
 use Rattle.plain.specs.Device.{Page}
 use Rattle.plain.specs.Run.{Event, on, said, page, next}
 use Rattle.records.specs.Checked.{checked_record_of}

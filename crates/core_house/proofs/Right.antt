@@ -1,10 +1,10 @@
 -- The house is right: its memory keeps the machine's state, so that it does what the plain house does. Assumes nothing.
-use Rattle.std.proofs.Common.{◌≡◌, ℕ, zero, suc, ◌<◌, ◌≤◌, Bool, true, false, eqb, List, [], ◌∷◌, ◌++◌, length, replicate, sym, refl, ap, ◌∙◌, subst, arith}
+use Rattle.std.proofs.Common.{◌≡◌, ℕ, zero, suc, Bool, true, false, eqb, List, length, replicate, sym, refl, ap, ◌∙◌, subst, arith}
 use lib.ListN.{length-replicate}
 use Rattle.std.proofs.lemmas.Bool.{eq-eqb, eqb-true}
 use Rattle.plain.specs.Pattern.{pick, every}
 use Rattle.plain.specs.House.{core}
-use Rattle.plain.specs.Run.{Event, Act, refused, Step, all_small, Steady}
+use Rattle.plain.specs.Run.{Event, refused, Steady}
 use Rattle.plain.specs.Promise.{Whole}
 use Rattle.journal.proofs.Machine.{Keeps}
 use Rattle.engine.specs.State.{House, starting}
@@ -13,7 +13,6 @@ use Rattle.engine.specs.Machine as engine
 use Rattle.records.specs.Checked.{checked_record_of}
 use Rattle.engine.proofs.Pages.{codec_checked}
 use Rattle.engine.proofs.Sound.{engine-whole}
-use Rattle.memory.specs.declared.registers.Registers.{Registers}
 use Rattle.memory.specs.Registers.{loaded, stored}
 use Rattle.memory.specs.Abstract.{house_of}
 use Rattle.memory.proofs.Houses.{house-stored, house-zeros}

@@ -1,6 +1,5 @@
 -- What a step says, from what its parts say. Assumes nothing.
-use Rattle.std.proofs.Common.{◌≡◌, ℕ, ◌<◌, ◌≤◌, Bool, true, false, eqb, leb, ◌≢◌, ◌⊎◌, List, ◌++◌, length, take, drop, sym, refl, ap, ◌∙◌, subst, inl, inr, arith, eq-eqb, ne_eqb, le-leb}
-use borrow.Author.Tests.{lt-leb}
+use Rattle.std.proofs.Common.{◌≡◌, ℕ, ◌<◌, ◌≤◌, true, false, ◌≢◌, ◌⊎◌, List, length, sym, refl, ap, ◌∙◌, subst, arith, eq-eqb, le-leb}
 use Rattle.memory.specs.declared.registers.Registers.{Registers}
 use Rattle.memory.specs.Registers.{loaded, stored}
 use Rattle.commits.specs.declared.Told.{Told}

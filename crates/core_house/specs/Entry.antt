@@ -1,5 +1,5 @@
 -- The house itself as a machine, and how one step of it is told to the world outside. Assumes nothing: these are definitions.
-use Rattle.std.specs.Prelude.{◌≡◌, ℕ, zero, suc, ◌+◌, ◌*◌, Bool, true, false, ◌&&◌, List, [], ◌∷◌, ◌++◌, length, take, ◌==◌, nat_le}
+use Rattle.std.specs.Prelude.{◌≡◌, ℕ, ◌+◌, ◌*◌, Bool, true, false, ◌&&◌, List, [], ◌∷◌, length, take, ◌==◌, nat_le}
 use Rattle.plain.specs.Pattern.{pick}
 use Rattle.plain.specs.Run.{Engine, Event, on, said, page, next, refused, Step}
 use Rattle.memory.specs.Registers.{loaded, stored}

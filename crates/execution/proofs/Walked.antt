@@ -1,16 +1,11 @@
 -- The walk, case by case, and what it reads. Assumes nothing.
-use Rattle.std.proofs.Common.{◌≡◌, ℕ, zero, suc, ◌+◌, ◌-◌, ◌*◌, ◌/◌, ◌%◌, ◌<◌, ◌≤◌, Bool, true, false, ◌&&◌, eqb, ltb, List, [], ◌∷◌, ◌++◌, map, length, get_or, take, drop, sym, refl, ap, ◌∙◌, append_assoc, arith}
+use Rattle.std.proofs.Common.{◌≡◌, ℕ, zero, suc, ◌+◌, ◌-◌, ◌/◌, ◌%◌, ◌<◌, ◌≤◌, Bool, true, false, ◌&&◌, ltb, List, [], ◌∷◌, ◌++◌, map, length, get_or, take, drop, sym, refl, ap, ◌∙◌, append_assoc, arith}
 use Rattle.std.proofs.lemmas.Bool.{and_parts, ltb-true}
-use Rattle.std.proofs.lemmas.List.{length-append, length-take, drop-drop, take_at, drop_at, take_all, drop_all, append-nil}
+use Rattle.std.proofs.lemmas.List.{length-append, drop-drop, take_at, drop_at, take_all, drop_all, append-nil}
 use Rattle.memory.proofs.Texting.{text-long}
 use Rattle.plain.specs.Pattern.{pick, every, eight, in_bytes}
 use Rattle.plain.specs.Device.{Page}
-use Rattle.journal.specs.Log.{Piece, Rec, head, line, copy, commit, broken, piece_in}
-use Rattle.journal.specs.Small.{News}
-use Rattle.records.specs.Lines.{share}
-use Rattle.records.specs.Pages.{by_kind, sealed, two_at, four_at, piece_in_page, splice_in_page, news_in_page}
-use Rattle.records.specs.Checked.{checked_record_of}
-use Rattle.commands.proofs.Resolved.{pick_both}
+use Rattle.journal.specs.Log.{Piece}
 use Rattle.commands.specs.Code.{walk_as}
 use Rattle.engine.specs.Machine.{walks}
 use Rattle.lines.proofs.Words.{slots_small}

@@ -1,9 +1,9 @@
 -- A command that was typed: what is decided about it, and how it begins. Assumes nothing: these are definitions.
-use Rattle.std.specs.Prelude.{ℕ, Bool, true, false, List, [], ◌∷◌, length, nat_le}
+use Rattle.std.specs.Prelude.{ℕ, false, List, [], ◌∷◌, length, nat_le}
 use Rattle.plain.specs.Pattern.{pick}
 use Rattle.plain.specs.Command.{Simple, Command, plain, all_lines, reads}
 use Rattle.commands.specs.Resolve.{Checked, good, refused}
-use Rattle.commands.specs.Plan.{Plan, Slot}
+use Rattle.commands.specs.Plan.{Plan}
 use Rattle.commands.specs.Turn.{lines_given, name_given}
 use Rattle.commands.specs.declared.plan.Update.{Update}
 use Rattle.commands.specs.declared.plan.Update.TheVariants.{Nothing, Current, Text, File}

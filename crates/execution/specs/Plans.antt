@@ -1,5 +1,5 @@
 -- Plans and lines given, as the registers and the memory have them. Assumes nothing: these are definitions.
-use Rattle.std.specs.Prelude.{ℕ, Bool, true, false, List, [], ◌∷◌, ◌++◌}
+use Rattle.std.specs.Prelude.{ℕ, List, [], ◌∷◌, ◌++◌}
 use Rattle.plain.specs.Pattern.{pick, none_of}
 use Rattle.journal.specs.Log as log
 use Rattle.commands.specs.Plan as plan

@@ -1,5 +1,5 @@
 -- The walk over lines of the text, and what is looked at before anything is put on. Assumes nothing: these are definitions.
-use Rattle.std.specs.Prelude.{ℕ, zero, suc, ◌+◌, ◌-◌, ◌*◌, Bool, true, false, ◌&&◌, List, [], ◌∷◌, ◌++◌, length, ◌==◌, nat_le, nat_lt}
+use Rattle.std.specs.Prelude.{ℕ, suc, ◌+◌, ◌-◌, Bool, true, false, ◌&&◌, List, ◌++◌, length, ◌==◌, nat_le, nat_lt}
 use Rattle.plain.specs.Pattern.{pick, eight}
 use Rattle.plain.specs.Device.{Page}
 use Rattle.plain.specs.Run.{read, shows}
@@ -13,7 +13,6 @@ use Rattle.engine.specs.Machine.{threshold, quota_by, walks}
 use Rattle.memory.specs.declared.phase.Phase.TheVariants.{Fetching, RowShown}
 use Rattle.memory.specs.declared.job.Lines.TheVariants.{Joined}
 use Rattle.memory.specs.declared.directory.Position.{Position}
-use Rattle.memory.specs.declared.walking.Walking.{Walking}
 use Rattle.memory.specs.declared.registers.Registers.{Registers}
 use Rattle.memory.specs.Abstract.{small_of, text_of, job_lines, house_of}
 use Rattle.memory.specs.Sections.{entry_at, extended}

@@ -1,4 +1,5 @@
 //! A command that was typed: it is decided, lines are walked over, and it is looked whether there is room for what it brings.
+#![tactic(auto)]
 
 mod command;
 mod room;

@@ -1,18 +1,16 @@
 -- The machine is right: it keeps its memory, and refuses what it is to refuse. Assumes nothing.
-use Rattle.std.proofs.Common.{◌≡◌, ℕ, zero, suc, ◌+◌, ◌%◌, ◌<◌, ◌≤◌, Bool, true, false, ◌&&◌, eqb, ltb, ◌⊎◌, List, [], ◌∷◌, ◌++◌, length, take, drop, replicate, sym, refl, ap, ◌∙◌, subst, inl, inr, mod-eq_of_lt, arith}
+use Rattle.std.proofs.Common.{◌≡◌, ℕ, zero, suc, ◌<◌, ◌≤◌, Bool, true, false, ◌&&◌, eqb, ltb, ◌⊎◌, List, [], ◌∷◌, ◌++◌, length, drop, replicate, sym, refl, ap, ◌∙◌, subst, inl, inr, arith}
 use lib.ListN.{length-replicate}
-use Rattle.std.proofs.lemmas.Bool.{and_from, and_parts, lt-ltb}
 use Rattle.plain.specs.Pattern.{pick, every, none_of, Got, none, got}
 use Rattle.plain.specs.Command.{Command, command, whole_command, reads}
 use Rattle.plain.specs.House.{Plain}
-use Rattle.plain.specs.Device.{Device, fresh, stopped}
-use Rattle.plain.specs.Run.{Event, on, said, page, next, all_small, refusal_end, Steady}
+use Rattle.plain.specs.Device.{Device}
+use Rattle.plain.specs.Run.{all_small, refusal_end, Steady}
 use Rattle.plain.specs.Promise.{May, Whole, first_plain}
-use Rattle.journal.specs.Machine.{laid}
-use Rattle.journal.proofs.Running.{Torn, Anywhere, Asleep}
-use Rattle.journal.proofs.Machine.{Goes, going, is_going, is_over, after_did, Did-it, Awoke, SoundMachine}
+use Rattle.journal.proofs.Running.{Anywhere}
+use Rattle.journal.proofs.Machine.{is_going, is_over, SoundMachine}
 use Rattle.journal.proofs.Coding.{Coding, laid-long, laid_is}
-use Rattle.journal.proofs.Whole.{Begins, coded-whole}
+use Rattle.journal.proofs.Whole.{coded-whole}
 use Rattle.memory.specs.declared.registers.Registers.{Registers}
 use Rattle.memory.specs.Registers.{Tame, loaded, numbers, stored}
 use Rattle.memory.proofs.Storing.{load_store, tame_loaded}

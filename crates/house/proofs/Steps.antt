@@ -1,13 +1,12 @@
 -- What a step says, from what its parts say. Assumes nothing.
-use Rattle.std.proofs.Common.{◌≡◌, ℕ, ◌<◌, ◌≤◌, Bool, true, false, eqb, leb, ◌≢◌, ◌⊎◌, List, ◌++◌, length, take, drop, sym, refl, ap, ◌∙◌, subst, inl, inr, arith, eq-eqb, ne_eqb, le-leb}
-use borrow.Author.Tests.{lt-leb}
+use Rattle.std.proofs.Common.{◌≡◌, ℕ, ◌<◌, ◌≤◌, Bool, true, false, eqb, ◌≢◌, ◌⊎◌, List, length, take, sym, refl, ap, ◌∙◌, subst, arith, eq-eqb, ne_eqb, le-leb}
 use Rattle.plain.specs.Pattern.{pick}
-use Rattle.plain.specs.Run.{Event, on, said, page, next}
+use Rattle.plain.specs.Run.{page, next}
 use Rattle.house.specs.declared.Told.{Told}
 use Rattle.house.specs.declared.Told.TheVariants.{Done, No}
 use Rattle.memory.specs.declared.registers.Registers.{Registers}
 use Rattle.memory.specs.Registers.{loaded, stored}
-use Rattle.house.specs.Machine.{refused_by, woken, answers, machine, zeros}
+use Rattle.house.specs.Machine.{refused_by, woken, answers, machine}
 use Rattle.house.specs.Entry.{own, from_eight, event_of, ActTold, Answered, StepSays, step_fits}
 use Rattle.house.proofs.Right.{zeros-long, stored_is}
 

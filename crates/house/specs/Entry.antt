@@ -1,7 +1,7 @@
 -- The house itself as a machine, and how one step of it is told to the world outside. Assumes nothing: these are definitions.
-use Rattle.std.specs.Prelude.{◌≡◌, ℕ, zero, suc, ◌+◌, ◌*◌, Bool, true, false, ◌&&◌, List, [], ◌∷◌, ◌++◌, length, take, drop, ◌==◌, nat_le}
+use Rattle.std.specs.Prelude.{◌≡◌, ℕ, ◌+◌, ◌*◌, Bool, true, false, ◌&&◌, List, [], ◌∷◌, ◌++◌, length, take, drop, ◌==◌, nat_le}
 use Rattle.plain.specs.Pattern.{pick}
-use Rattle.plain.specs.Run.{Engine, Event, on, said, page, next, Act, read, put_on, fasten, begin, shows, done, refused, Step}
+use Rattle.plain.specs.Run.{Engine, Event, on, said, page, next, Act, read, put_on, fasten, begin, shows, done, refused}
 use Rattle.journal.specs.Machine.{coded}
 use Rattle.memory.specs.declared.registers.Registers.{Registers}
 use Rattle.memory.specs.Registers.{loaded}

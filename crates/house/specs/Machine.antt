@@ -1,9 +1,9 @@
 -- The machine on its registers: it takes note of power and knows no command. Assumes nothing: these are definitions.
-use Rattle.std.specs.Prelude.{ℕ, Bool, true, false, List, [], ◌∷◌, replicate}
+use Rattle.std.specs.Prelude.{ℕ, Bool, false, List, replicate}
 use Rattle.plain.specs.Pattern.{pick, none_of}
 use Rattle.plain.specs.Command.{Command, reads}
-use Rattle.plain.specs.Run.{Event, on, said, page, next, done, refused, Engine}
-use Rattle.journal.specs.Machine.{Did, did, Machine, coded, laid}
+use Rattle.plain.specs.Run.{Event, on, said, page, next, done, refused}
+use Rattle.journal.specs.Machine.{Did, did, Machine, laid}
 use Rattle.memory.specs.declared.phase.Phase.TheVariants.{Idle}
 use Rattle.memory.specs.declared.registers.Registers.{Registers}
 use Rattle.memory.specs.Registers.{Tame, loaded, numbers}

@@ -1,4 +1,5 @@
 //! The house as a machine: one step of it, over lent memory and a lent row of bytes.
+#![tactic(auto)]
 
 ghost use Rattle.std.specs.Prelude.{◌≡◌, ◌≤◌, length, take};
 ghost use Rattle.plain.specs.Promise.{Whole};

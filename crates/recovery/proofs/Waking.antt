@@ -2,7 +2,7 @@
 use Rattle.std.proofs.Common.{◌≡◌, ℕ, ◌+◌, ◌*◌, false, eqb, List, refl, ap, ◌∙◌, subst, arith}
 use Rattle.plain.specs.Pattern.{pick}
 use Rattle.plain.specs.Device.{Page}
-use Rattle.journal.specs.Log.{Which, neither, only, choose, head_of}
+use Rattle.journal.specs.Log.{neither, only, choose, head_of}
 use Rattle.records.specs.Checked.{checked_record_of}
 use Rattle.memory.specs.declared.phase.Phase.TheVariants.{FreshBegun, Replaying}
 use Rattle.memory.specs.declared.registers.Registers.{Registers}

@@ -1,5 +1,5 @@
 -- Power comes: the tape that counts is replayed; or there is none, and one begins. Assumes nothing: these are definitions.
-use Rattle.std.specs.Prelude.{ℕ, zero, suc, ◌+◌, Bool, true, false, List, [], ◌∷◌, length, ◌==◌}
+use Rattle.std.specs.Prelude.{ℕ, zero, suc, true, false, List, ◌==◌}
 use Rattle.plain.specs.Pattern.{pick}
 use Rattle.plain.specs.Device.{Page, lesser}
 use Rattle.plain.specs.Run.{read, put_on, fasten, begin}

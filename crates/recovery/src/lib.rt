@@ -1,4 +1,5 @@
 //! Power comes: which tape counts, and what its records say.
+#![tactic(auto)]
 
 mod clamp;
 mod fresh;

@@ -1,8 +1,7 @@
 -- Carrying entries to the other tape. Assumes nothing.
-use Rattle.std.proofs.Common.{◌≡◌, ℕ, zero, suc, ◌+◌, ◌-◌, ◌%◌, ◌<◌, ◌≤◌, Bool, true, false, eqb, ltb, List, [], ◌∷◌, ◌++◌, length, get_or, sym, refl, ap, ◌∙◌, subst, mod-eq_of_lt, arith, length-append}
-use Rattle.plain.specs.Pattern.{pick}
+use Rattle.std.proofs.Common.{◌≡◌, ℕ, suc, ◌+◌, ◌-◌, ◌<◌, Bool, false, eqb, ltb, List, [], ◌∷◌, ◌++◌, length, sym, refl, ap, ◌∙◌, subst, mod-eq_of_lt, arith, length-append}
 use Rattle.plain.specs.Device.{Page}
-use Rattle.plain.specs.Run.{read, put_on, fasten, begin}
+use Rattle.plain.specs.Run.{read, put_on, begin}
 use Rattle.journal.specs.Machine.{did}
 use Rattle.journal.specs.Log.{state, head, copy, piece_in, next_generation}
 use Rattle.journal.specs.Small.{small, News, news, nothing_else, pushes, slots, set_up_of}
@@ -19,16 +18,15 @@ use Rattle.memory.specs.declared.carrying.Carrying.{Carrying}
 use Rattle.memory.specs.declared.phase.Phase as memory_phase
 use Rattle.memory.specs.declared.registers.Registers.{Registers}
 use Rattle.memory.specs.Sections.{files_in}
-use Rattle.memory.specs.Abstract.{house_of, dir_of, ring_of, files_of, small_of}
+use Rattle.memory.specs.Abstract.{house_of, ring_of, files_of, small_of}
 use Rattle.memory.proofs.Filing.{length-files}
 use Rattle.memory.proofs.Keeping.{kept_entry}
-use Rattle.memory.proofs.Positions.{position_as, entry_means, next_means, entry_set, beside_entry}
+use Rattle.memory.proofs.Positions.{entry_means, next_means, entry_set, beside_entry}
 use Rattle.memory.proofs.Steadiness.{kept_same, Kept, kept_then}
 use Rattle.memory.proofs.Weighing.{ring_long}
-use Rattle.commits.specs.Acts.{Made}
-use Rattle.commits.specs.Setters.{registers, with_carrying, with_index}
+use Rattle.commits.specs.Setters.{registers}
 use Rattle.commits.specs.Bounds.{Bounded}
-use Rattle.compaction.specs.Carry.{go_on, next_entry, entry_of, carry_entry, carry, piece_of_page, carry_piece, carried, new_position, carried_memory, after_carry, begin_other, put_head, set_up_next, switch, begin_old, after_switch}
+use Rattle.compaction.specs.Carry.{go_on, next_entry, carry_entry, carry, piece_of_page, carry_piece, carried, new_position, carried_memory, after_carry, begin_other, put_head, set_up_next, switch, begin_old, after_switch}
 use Rattle.refinement.proofs.Same.{Safe, Same, safe_pick, same_pick, same_by, same_at, dir-long, rebuilt}
 use Rattle.refinement.proofs.Rows.{done_safe, done_same}
 use Rattle.refinement.proofs.Putting.{pass_safe, pass_same}

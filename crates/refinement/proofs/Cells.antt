@@ -1,16 +1,15 @@
 -- While lines are shown or joined no lines wait to be put on: so the cells of the memory hold one text at a time. Assumes nothing.
-use Rattle.std.proofs.Common.{◌≡◌, ℕ, suc, ◌+◌, Bool, true, false, ◌&&◌, eqb, ltb, List, [], ◌∷◌, ◌++◌, length, drop, sym, refl, ap, ◌∙◌, subst, arith}
+use Rattle.std.proofs.Common.{◌≡◌, ℕ, suc, ◌+◌, Bool, true, false, ◌&&◌, eqb, ltb, List, [], ◌∷◌, length, drop, sym, refl, ap, ◌∙◌, subst}
 use Rattle.std.proofs.lemmas.Bool.{true≢false, false≢true}
 use Rattle.plain.specs.Pattern.{pick, none_of}
-use Rattle.plain.specs.Command.{Deed, Simple, Command, plain, all_lines, lines_of, reads}
+use Rattle.plain.specs.Command.{Simple, Command, plain, all_lines, lines_of, reads}
 use Rattle.plain.specs.Run.{Event, on, said, page, next}
-use Rattle.journal.specs.Log.{Rec, head, line, copy, commit, broken, intact, Piece, piece_in, Which, neither, only, choose, head_of}
+use Rattle.journal.specs.Log.{Rec, intact, Piece, piece_in, Which, neither, only, choose, head_of}
 use Rattle.journal.specs.Small.{News}
 use Rattle.records.specs.Checked.{checked_record_of}
 use Rattle.commands.specs.Resolve.{Checked, good, refused}
-use Rattle.commands.specs.Plan as plan
 use Rattle.commands.specs.Plan.{Plan, Walk, skip, show, show_numbered, measure, glue, Update, same_as_before, current_only, the_text, the_file, Rows, no_row, a_number, all_files, sizes}
-use Rattle.commands.specs.Turn.{lines_given, given_of}
+use Rattle.commands.specs.Turn.{given_of}
 use Rattle.commands.specs.Code.{walk_as}
 use Rattle.commands.specs.declared.plan.Walk as code_walk
 use Rattle.commands.specs.declared.plan.Walk.TheVariants as walk
@@ -22,7 +21,7 @@ use Rattle.engine.specs.Machine.{Does}
 use Rattle.memory.specs.declared.job.Lines as memory_lines
 use Rattle.memory.specs.declared.job.Lines.TheVariants.{Nothing, Given, Joined}
 use Rattle.memory.specs.declared.registers.Registers.{Registers}
-use Rattle.memory.specs.Abstract.{house_of, job_lines, lines_left, left_of, text_of}
+use Rattle.memory.specs.Abstract.{house_of, job_lines, left_of, text_of}
 use Rattle.refinement.proofs.Walking as walking
 use Rattle.execution.proofs.Given.{lines_some}
 

@@ -1,6 +1,6 @@
 -- A splice held inside the directory does the same, and the memory can do it. Assumes nothing.
-use Rattle.std.proofs.Common.{◌≡◌, ℕ, zero, suc, ◌+◌, ◌-◌, ◌<◌, ◌≤◌, Bool, true, false, ◌&&◌, ltb, leb, ◌⊎◌, List, [], ◌∷◌, ◌++◌, length, take, drop, sym, refl, ap, ◌∙◌, subst, inl, inr, arith, length-append, length-drop, length-take}
-use Rattle.std.proofs.lemmas.List.{take_all, drop_all, take-take}
+use Rattle.std.proofs.Common.{◌≡◌, ℕ, zero, suc, ◌+◌, ◌-◌, ◌<◌, ◌≤◌, true, ltb, ◌⊎◌, List, [], ◌++◌, length, take, drop, sym, refl, ap, ◌∙◌, subst, inl, inr, arith, length-append, length-drop, length-take}
+use Rattle.std.proofs.lemmas.List.{take_all, drop_all}
 use Rattle.std.proofs.lemmas.Bool.{cases_lt, lt-ltb, le-ltb, and_from}
 use Rattle.plain.specs.Pattern.{pick}
 use Rattle.plain.specs.Device.{lesser}
@@ -9,7 +9,7 @@ use Rattle.journal.specs.Small.{News}
 use Rattle.memory.specs.declared.kept.Kept.{Kept}
 use Rattle.memory.specs.Registers.{TameKept}
 use Rattle.memory.specs.Abstract.{dir_of, pending_of}
-use Rattle.memory.specs.Commit.{can_by, came_by, can_note, can_apply}
+use Rattle.memory.specs.Commit.{can_by, can_note, can_apply}
 use Rattle.memory.proofs.Splicing.{there_can, put_can, there-copy}
 use Rattle.commits.specs.News.{within, clamped}
 use Rattle.refinement.proofs.Same.{dir-long, pending-many}

@@ -1,21 +1,21 @@
 -- A commit, applied in memory as the log applies it. Assumes nothing.
-use Rattle.std.proofs.Common.{◌≡◌, ℕ, zero, suc, ◌+◌, ◌-◌, ◌%◌, ◌<◌, ◌≤◌, Bool, true, false, ◌&&◌, ltb, leb, ◌⊎◌, List, [], ◌∷◌, ◌++◌, length, take, drop, sym, refl, ap, ◌∙◌, subst, inl, inr, mod-eq_of_lt, arith, length-append, length-drop, length-take}
-use Rattle.std.proofs.lemmas.Bool.{cases_lt, lt-ltb, le-ltb, le-leb, ltb-true, leb-true, and_from, and_parts}
+use Rattle.std.proofs.Common.{◌≡◌, ℕ, suc, ◌+◌, ◌-◌, ◌<◌, ◌≤◌, Bool, true, false, ◌&&◌, ltb, leb, List, [], ◌∷◌, ◌++◌, length, take, drop, sym, refl, ap, ◌∙◌, subst, mod-eq_of_lt, arith, length-append, length-drop, length-take}
+use Rattle.std.proofs.lemmas.Bool.{lt-ltb, le-ltb, ltb-true, and_from, and_parts}
 use Rattle.plain.specs.Pattern.{pick, every, all_bytes}
 use Rattle.plain.specs.Device.{lesser}
-use Rattle.journal.specs.Log.{Source, no_entries, new_entries, copied, Splice, State, state, apply, after, commit}
-use Rattle.journal.specs.Small.{Entry, Small, Also, nothing_else, push, slot, News, updated, pushed}
+use Rattle.journal.specs.Log.{Source, no_entries, new_entries, copied, Splice, state, apply, after, commit}
+use Rattle.journal.specs.Small.{Small, Also, nothing_else, push, slot, News, updated, pushed}
 use Rattle.engine.specs.Fits.{Word, words, entry_fits, SmallFits, AlsoFits, StoreFits}
 use Rattle.memory.specs.declared.kept.Kept.{Kept}
 use Rattle.memory.specs.Registers.{TameKept}
 use Rattle.memory.specs.Sections.{files_in, can_splice, can_file, file_count}
-use Rattle.memory.specs.Abstract.{dir_of, pending_of, ring_of, files_of, small_of, store_of, text_of, name_of}
-use Rattle.memory.specs.Commit.{can_by, came_by, can_note, can_apply, kept_after, applied, counts_by}
+use Rattle.memory.specs.Abstract.{dir_of, pending_of, files_of, small_of, store_of}
+use Rattle.memory.specs.Commit.{can_by, came_by, can_note, can_apply, kept_after, counts_by}
 use Rattle.memory.proofs.Committing.{pick_yes}
 use Rattle.memory.proofs.Filing.{length-files}
 use Rattle.memory.proofs.Frames.{SameText, SameName}
 use Rattle.memory.proofs.Splicing.{can_there, copy-there}
-use Rattle.memory.proofs.Stored.{Committed, applied_means}
+use Rattle.memory.proofs.Stored.{applied_means}
 use Rattle.records.specs.Checked.{cut, cut_also, cut_news}
 use Rattle.commits.specs.News.{clamped, kept_by, applied_by}
 use Rattle.refinement.proofs.Same.{dir-long}

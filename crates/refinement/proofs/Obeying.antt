@@ -1,7 +1,7 @@
 -- A command that was typed. Assumes nothing.
-use Rattle.std.proofs.Common.{◌≡◌, ℕ, zero, suc, ◌+◌, ◌<◌, ◌≤◌, Bool, true, false, ◌&&◌, leb, List, [], ◌∷◌, ◌++◌, length, sym, refl, ap, ◌∙◌, subst, arith}
+use Rattle.std.proofs.Common.{◌≡◌, ℕ, ◌≤◌, Bool, true, false, leb, List, [], ◌∷◌, length, sym, refl, ap, ◌∙◌, subst, arith}
 use Rattle.std.proofs.lemmas.Bool.{le-leb, leb-true, and_parts}
-use Rattle.plain.specs.Pattern.{pick, every, none_of, all_bytes}
+use Rattle.plain.specs.Pattern.{pick, every, all_bytes}
 use Rattle.plain.specs.Command.{Deed, Simple, Command, plain, all_lines, lines_of, reads}
 use Rattle.journal.specs.Log as log
 use Rattle.journal.specs.Log.{state}
@@ -11,8 +11,8 @@ use Rattle.commands.specs.Resolve.{Checked, good, refused}
 use Rattle.commands.specs.Plan as plan
 use Rattle.commands.specs.Code.{walk_as, update_as, rows_as, source_as, plan_as}
 use Rattle.commands.specs.Turn.{lines_given, name_given}
-use Rattle.commands.specs.Held.{well_given, well_read, ReadsWell, ReadsFew}
-use Rattle.commands.proofs.Readings.{Left, Typed, no_lines, lines_in, reads_well, reads_few, reads-typed, reads_one}
+use Rattle.commands.specs.Held.{ReadsWell, ReadsFew}
+use Rattle.commands.proofs.Readings.{Typed, no_lines, lines_in, reads_well, reads_few, reads-typed, reads_one}
 use Rattle.commands.specs.declared.plan.Update.{Update}
 use Rattle.commands.specs.declared.plan.Update.TheVariants as update
 use Rattle.commands.specs.declared.plan.Walk.{Walk}
@@ -20,15 +20,15 @@ use Rattle.commands.specs.declared.plan.Walk.TheVariants.{Skip, Show, ShowNumber
 use Rattle.engine.specs.State as engine
 use Rattle.engine.specs.Fits.{Fits}
 use Rattle.engine.specs.Machine as machine
-use Rattle.memory.specs.declared.job.Lines.TheVariants.{Nothing, Given, Joined}
+use Rattle.memory.specs.declared.job.Lines.TheVariants.{Nothing, Given}
 use Rattle.memory.specs.declared.registers.Registers.{Registers}
-use Rattle.memory.specs.Abstract.{house_of, phase_as, tapes_as, carrying_as, store_of, small_of, job_lines, text_of, name_of}
-use Rattle.memory.specs.Sections.{extended, name_kept}
+use Rattle.memory.specs.Abstract.{house_of, phase_as, tapes_as, carrying_as, small_of, job_lines, text_of, name_of}
+use Rattle.memory.specs.Sections.{extended}
 use Rattle.memory.proofs.Committing.{pick_yes}
 use Rattle.memory.proofs.Frames.{BesideText, BesideName}
 use Rattle.memory.proofs.Keeping.{kept-extended, kept-name}
 use Rattle.memory.proofs.Noting.{name_means, beside_kept-name}
-use Rattle.memory.proofs.Steadiness.{Kept, kept_same, kept_then}
+use Rattle.memory.proofs.Steadiness.{Kept, kept_then}
 use Rattle.memory.proofs.Worded.{text-kept, beside_extended}
 use Rattle.commits.specs.Acts.{Made}
 use Rattle.commits.specs.Bounds.{Bounded}

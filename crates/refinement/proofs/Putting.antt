@@ -1,46 +1,39 @@
 -- Putting on what a command brings. Assumes nothing.
-use Rattle.std.proofs.Common.{◌≡◌, ℕ, zero, suc, ◌+◌, ◌-◌, ◌*◌, ◌%◌, ◌<◌, ◌≤◌, Bool, true, false, not, ◌&&◌, eqb, ltb, leb, ◌⊎◌, List, [], ◌∷◌, ◌++◌, length, take, drop, sym, refl, ap, ◌∙◌, subst, inl, inr, mod-eq_of_lt, arith, length-append, length-drop, length-take}
+use Rattle.std.proofs.Common.{◌≡◌, ℕ, zero, suc, ◌+◌, ◌-◌, ◌<◌, ◌≤◌, Bool, true, false, eqb, ltb, leb, ◌⊎◌, List, [], ◌∷◌, ◌++◌, length, drop, sym, refl, ap, ◌∙◌, subst, inl, inr, mod-eq_of_lt, arith, length-append, length-drop, length-take}
 use Rattle.std.proofs.lemmas.List.{drop_all}
 use Rattle.std.proofs.lemmas.Bool.{leb-true, ltb-true, and_parts, ne_eqb}
 use Rattle.plain.specs.Pattern.{pick, or}
 use Rattle.plain.specs.Device.{lesser}
 use Rattle.plain.specs.Run.{put_on}
-use Rattle.journal.specs.Log.{Position, Piece, Source, no_entries, new_entries, copied, Splice, State, state, position, after, commit, line}
+use Rattle.journal.specs.Log.{Position, Piece, Source, no_entries, new_entries, copied, Splice, State, state, after, line}
 use Rattle.journal.specs.Small.{Small, small, News, updated}
-use Rattle.records.specs.Pages.{page_of, source_beside, beside}
+use Rattle.records.specs.Pages.{page_of, source_beside}
 use Rattle.commands.specs.Plan as plan
 use Rattle.commands.specs.Plan.{same_as_before, current_only, the_text, the_file}
 use Rattle.commands.specs.Smalls.{news_by}
-use Rattle.commands.specs.Code.{plan_as, splice_as}
+use Rattle.commands.specs.Code.{splice_as}
 use Rattle.engine.specs.State as engine
 use Rattle.engine.specs.State.{House, house, walking_of, putting_of}
-use Rattle.engine.specs.Fits.{Fits, StoreFits, UpdateFits, PlanFits, PositionsFit, more, none, PositionFits}
+use Rattle.engine.specs.Fits.{Fits, StoreFits, UpdateFits, PositionsFit, more, PositionFits}
 use Rattle.engine.specs.Packing.{records_of, piece_of}
 use Rattle.engine.specs.Machine as machine
-use Rattle.memory.specs.declared.phase.Phase.TheVariants.{LinePut, CommitPut, CommitFast}
-use Rattle.memory.specs.declared.job.Lines.{Lines}
+use Rattle.memory.specs.declared.phase.Phase.TheVariants.{LinePut, CommitPut}
 use Rattle.memory.specs.declared.directory.Position as memory_position
 use Rattle.memory.specs.declared.tapes.Tapes.{Tapes}
 use Rattle.memory.specs.declared.kept.Kept.{Kept}
-use Rattle.memory.specs.declared.walking.Putting as memory_putting
 use Rattle.memory.specs.declared.registers.Registers.{Registers}
-use Rattle.memory.specs.Registers.{TameKept}
-use Rattle.memory.specs.Abstract.{house_of, tapes_as, carrying_as, store_of, small_of, job_lines, left_of, line_end, some_lines, text_of, name_of, dir_of, pending_of}
+use Rattle.memory.specs.Abstract.{house_of, tapes_as, store_of, small_of, left_of, text_of, dir_of, pending_of}
 use Rattle.memory.specs.Sections as sections
-use Rattle.memory.proofs.Committing.{pick_yes}
-use Rattle.memory.proofs.Filing.{length-files}
 use Rattle.memory.proofs.Frames.{SameText, SameName}
 use Rattle.memory.proofs.Keeping.{kept-applied, kept-pending}
 use Rattle.memory.proofs.Positions.{position_as, pending-pushed, beside_pushed}
 use Rattle.memory.proofs.Steadiness.{kept_same, kept_pick}
 use Rattle.memory.proofs.Texting.{text-long}
-use Rattle.memory.proofs.Worded.{Ends, line-ends, left_first, left_start}
-use Rattle.commits.specs.Acts.{Made}
+use Rattle.memory.proofs.Worded.{line-ends, left_first, left_start}
 use Rattle.commits.specs.Setters.{putting, with_putting, with_kept, with_tapes, with_cursor, with_other, with_used, in_phase, with_pending}
 use Rattle.commits.specs.Bounds.{Bounded}
 use Rattle.records.specs.Checked.{cut_news}
 use Rattle.commits.specs.News.{clamped, kept_by, applied_by, news_in}
-use Rattle.commits.specs.Rows.{finish}
 use Rattle.commits.specs.Putting.{target, target_used, target_longer, last_target, cursor_then, committed, put_commit, line_from, line_to, first_line, pending_then, target_position, noted_pending, put_piece, put_next, passing, start_pass, put_further, after_line, after_commit, after_fast}
 use Rattle.refinement.proofs.Same.{Safe, Same, safe_pick, same_pick, same_at, pending-many, rebuilt}
 use Rattle.refinement.proofs.Rows.{finish_safe, finish_same}

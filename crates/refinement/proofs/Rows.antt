@@ -1,5 +1,5 @@
 -- The end of a command. Assumes nothing.
-use Rattle.std.proofs.Common.{◌≡◌, ℕ, zero, suc, ◌+◌, ◌<◌, ◌≤◌, Bool, true, false, ltb, List, [], ◌∷◌, ◌++◌, length, sym, refl, ap, ◌∙◌, subst}
+use Rattle.std.proofs.Common.{ℕ, ltb, List, sym, refl, ap}
 use Rattle.commands.specs.Code.{rows_as}
 use Rattle.commands.specs.declared.plan.Rows.{Rows}
 use Rattle.commands.specs.declared.plan.Rows.TheVariants.{Nothing, Number, Files}
@@ -7,11 +7,10 @@ use Rattle.engine.specs.Fits.{Fits}
 use Rattle.engine.specs.Machine as machine
 use Rattle.memory.specs.declared.phase.Phase.{Phase}
 use Rattle.memory.specs.declared.registers.Registers.{Registers}
-use Rattle.memory.specs.Abstract.{house_of, files_of}
+use Rattle.memory.specs.Abstract.{house_of}
 use Rattle.memory.specs.Sections.{files_in}
 use Rattle.memory.proofs.Filing.{length-files}
 use Rattle.memory.proofs.Steadiness.{kept_same}
-use Rattle.commits.specs.Acts.{Made}
 use Rattle.commits.specs.Setters.{in_phase}
 use Rattle.commits.specs.Bounds.{Bounded}
 use Rattle.commits.specs.Rows.{ends_done, refuses, show_files, finish_by, finish}

@@ -1,9 +1,8 @@
 -- What is to be shown of each phase: memory keeps its length and its bounds, whatever it holds; and where the state fits then, it is the machine's. Assumes
 -- nothing.
-use Rattle.std.proofs.Common.{◌≡◌, ℕ, zero, suc, ◌+◌, ◌-◌, ◌<◌, ◌≤◌, Bool, true, false, List, [], ◌∷◌, ◌++◌, map, length, take, drop, sym, refl, ap, ◌∙◌, subst, arith}
+use Rattle.std.proofs.Common.{◌≡◌, ℕ, ◌≤◌, Bool, true, false, List, length, drop, sym, ◌∙◌, subst, arith}
 use Rattle.std.proofs.lemmas.List.{length-take, length-map}
 use Rattle.plain.specs.Pattern.{pick}
-use Rattle.journal.specs.Machine.{Did}
 use Rattle.journal.specs.Log.{State}
 use Rattle.journal.specs.Small.{Small}
 use Rattle.commands.specs.Code.{plan_as}
@@ -12,12 +11,11 @@ use Rattle.engine.specs.State.{House}
 use Rattle.engine.specs.Fits.{Fits}
 use Rattle.engine.specs.Machine.{Does}
 use Rattle.memory.specs.declared.registers.Registers.{Registers}
-use Rattle.memory.specs.Registers.{Tame, TameKept}
 use Rattle.memory.specs.Sections.{entries_in}
 use Rattle.memory.specs.Abstract.{house_of, dir_of, pending_of, phase_as, tapes_as, carrying_as, store_of, job_of, walking_as, putting_as, job_lines, left_of}
 use Rattle.memory.proofs.Frames.{SameText, SameName}
 use Rattle.memory.proofs.Splicing.{entries-long, cells_long}
-use Rattle.memory.proofs.Steadiness.{Kept, kept_same}
+use Rattle.memory.proofs.Steadiness.{Kept}
 use Rattle.commits.specs.Acts.{Made}
 use Rattle.commits.specs.Bounds.{Bounded}
 

@@ -1,10 +1,10 @@
 -- Power comes, and the tape that counts is replayed. Assumes nothing.
-use Rattle.std.proofs.Common.{◌≡◌, ℕ, zero, suc, ◌+◌, ◌<◌, ◌≤◌, Bool, true, false, eqb, List, [], ◌∷◌, ◌++◌, length, set, replicate, sym, refl, ap, ◌∙◌, subst, mod-eq_of_lt, arith}
+use Rattle.std.proofs.Common.{◌≡◌, ℕ, zero, suc, ◌<◌, ◌≤◌, Bool, true, false, eqb, List, [], length, refl, ap, ◌∙◌, subst, mod-eq_of_lt, arith}
 use lib.ListN.{length-replicate}
 use Rattle.plain.specs.Pattern.{pick}
 use Rattle.plain.specs.Device.{Page, lesser}
-use Rattle.plain.specs.Run.{read, begin, fasten}
-use Rattle.journal.specs.Log.{Position, hole, Rec, head, line, copy, commit, broken, State, state, Splice, Which, neither, only, choose, head_of, next_generation, after}
+use Rattle.plain.specs.Run.{read, fasten}
+use Rattle.journal.specs.Log.{Position, hole, Rec, head, line, copy, commit, broken, State, state, Which, neither, only, choose, head_of, next_generation, after}
 use Rattle.journal.specs.Small.{Small, small, Also, nothing_else, push, slot, News, updated}
 use Rattle.journal.specs.Machine.{did}
 use Rattle.records.specs.Pages as pages
@@ -15,23 +15,20 @@ use Rattle.engine.specs.State as engine
 use Rattle.engine.specs.Fits.{Fits, PositionFits}
 use Rattle.engine.specs.Machine as machine
 use Rattle.engine.specs.Machine.{no_limit}
-use Rattle.memory.specs.declared.kept.Kept.{Kept}
 use Rattle.memory.specs.declared.registers.Registers.{Registers}
 use Rattle.memory.specs.Registers.{TameKept}
 use Rattle.memory.specs.Sections as sections
-use Rattle.memory.specs.Abstract.{house_of, store_of, small_of, dir_of, pending_of, ring_of, files_at, text_of, name_of}
-use Rattle.memory.proofs.Frames.{SameText, SameName, BesideDir}
+use Rattle.memory.specs.Abstract.{house_of, store_of, dir_of, pending_of, ring_of, files_at, text_of, name_of}
 use Rattle.memory.proofs.Keeping as keeping
 use Rattle.memory.proofs.Positions.{entry_set, beside_entry, cleared_means, beside_cleared}
 use Rattle.memory.proofs.Steadiness.{kept_same}
 use Rattle.memory.proofs.Steadiness as steadiness
-use Rattle.commits.specs.Acts.{Made}
 use Rattle.commits.specs.Bounds.{Bounded}
-use Rattle.records.specs.Checked.{cut, cut_also, cut_news}
-use Rattle.commits.specs.News.{kept_by, applied_by, clamped}
-use Rattle.commits.specs.Setters.{with_pending, with_entries, with_used, with_kept, with_tapes}
-use Rattle.recovery.specs.Wake.{starting, wake, woke_first, wake_by, woke_second, here, kept_with, memory_with, next_record, replay_by, replay_record, fresh_first, fresh_next}
-use Rattle.refinement.proofs.Same.{Safe, Same, same_at, rebuilt, pending-many}
+use Rattle.records.specs.Checked.{cut_also, cut_news}
+use Rattle.commits.specs.News.{kept_by, clamped}
+use Rattle.commits.specs.Setters.{with_pending, with_used, with_kept, with_tapes}
+use Rattle.recovery.specs.Wake.{wake, woke_first, wake_by, woke_second, here, kept_with, memory_with, next_record, replay_by, replay_record, fresh_first, fresh_next}
+use Rattle.refinement.proofs.Same.{Safe, Same, rebuilt}
 use Rattle.refinement.proofs.Clamp.{Lesser, first, second, lesser_is}
 use Rattle.refinement.proofs.Commit.{SlotWord, commit_means, tame_kept_by}
 use Rattle.refinement.proofs.Putting.{Noted, pending-noted, apart}

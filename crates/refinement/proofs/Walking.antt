@@ -1,27 +1,23 @@
 -- The walk over lines, and what is looked at before anything is put on. Assumes nothing.
-use Rattle.std.proofs.Common.{◌≡◌, ℕ, zero, suc, ◌+◌, ◌-◌, ◌<◌, ◌≤◌, Bool, true, false, ◌&&◌, eqb, ltb, leb, List, [], ◌∷◌, ◌++◌, length, drop, sym, refl, ap, ◌∙◌, subst, arith}
+use Rattle.std.proofs.Common.{◌≡◌, ℕ, ◌+◌, ◌≤◌, Bool, true, false, ◌&&◌, eqb, ltb, leb, List, [], ◌∷◌, ◌++◌, length, drop, sym, refl, ap, ◌∙◌, subst, arith}
 use Rattle.std.proofs.lemmas.Bool.{le-leb, leb-true}
-use Rattle.plain.specs.Pattern.{pick, all_bytes}
+use Rattle.plain.specs.Pattern.{pick}
 use Rattle.plain.specs.Device.{Page}
-use Rattle.plain.specs.Run.{read, shows}
-use Rattle.journal.specs.Log.{Piece, piece_in, State, state}
+use Rattle.plain.specs.Run.{read}
+use Rattle.journal.specs.Log.{Piece, State, state}
 use Rattle.journal.specs.Small.{Small, small}
-use Rattle.records.specs.Checked.{checked_record_of}
 use Rattle.records.proofs.Read.{piece-short, piece_bytes}
 use Rattle.commands.specs.Code.{walk_as, plan_as}
 use Rattle.commands.specs.declared.plan.Walk.{Walk}
 use Rattle.commands.specs.declared.plan.Walk.TheVariants.{Skip, Show, ShowNumbered, Measure, Join}
 use Rattle.engine.specs.State as engine
 use Rattle.engine.specs.Fits.{Fits}
-use Rattle.engine.specs.Packing.{records_of, lines_records}
 use Rattle.engine.specs.Machine as machine
 use Rattle.engine.specs.Machine.{Does, threshold, walks}
-use Rattle.memory.specs.declared.job.Lines.{Lines}
-use Rattle.memory.specs.declared.job.Lines.TheVariants.{Nothing, Given, Joined}
+use Rattle.memory.specs.declared.job.Lines.TheVariants.{Nothing, Joined}
 use Rattle.memory.specs.declared.walking.Walking as memory_walking
 use Rattle.memory.specs.declared.registers.Registers.{Registers}
-use Rattle.memory.specs.Abstract.{house_of, phase_as, tapes_as, carrying_as, store_of, small_of, job_of, putting_as, walking_as, job_lines, left_of, text_of}
-use Rattle.memory.specs.Sections.{extended}
+use Rattle.memory.specs.Abstract.{house_of, phase_as, tapes_as, carrying_as, store_of, small_of, job_of, putting_as, job_lines, left_of, text_of}
 use Rattle.memory.proofs.Committing.{pick_yes}
 use Rattle.memory.proofs.Frames.{SameName}
 use Rattle.memory.proofs.Keeping.{kept-extended}
@@ -30,7 +26,7 @@ use Rattle.memory.proofs.Steadiness.{Kept, kept_same, kept_then}
 use Rattle.memory.proofs.Texting.{text-long}
 use Rattle.memory.proofs.Worded.{text-more, beside_extended}
 use Rattle.commits.specs.Acts.{Made}
-use Rattle.commits.specs.Setters.{job, walking, with_job, with_walking}
+use Rattle.commits.specs.Setters.{with_walking}
 use Rattle.commits.specs.Bounds.{Bounded}
 use Rattle.compaction.specs.Carry.{piece_of_page}
 use Rattle.execution.specs.Walk.{need, quota_of, with_quota, prepare, weigh, fetch, lines_then, walk_on, line_past, bytes_then, joined_memory, next_part, more_parts, show_piece, too_long, glue_piece, fetched_by, fetched}

@@ -1,6 +1,6 @@
-use Rattle.std.proofs.Common.{◌≡◌, ◌≤◌, sym, ap, ◌∙◌, subst, arith, length-take, ne_eqb}
+use Rattle.std.proofs.Common.{sym, arith, length-take, ne_eqb}
 use Rattle.core_house.specs.Machine.{answers}
-use Rattle.core_house.specs.Entry.{from_eight, event_of}
+use Rattle.core_house.specs.Entry.{event_of}
 use Rattle.core_house.proofs.answer.Goals as goal
 
 pub from_eight-requires : goal.from_eight-requires

@@ -1,4 +1,4 @@
-use Rattle.std.proofs.Common.{◌≡◌, ◌+◌, ◌*◌, ◌<◌, ◌≤◌, length, take, sym, refl, ap, ◌∙◌, subst, arith, take_all}
+use Rattle.std.proofs.Common.{◌+◌, ◌*◌, ◌<◌, refl, ap, ◌∙◌, arith, take_all}
 use Rattle.core_house.specs.Entry.{from_eight}
 use Rattle.core_house.proofs.Eight.{eight-more, eight-below, eight_fits}
 use Rattle.core_house.proofs.from_eight.Goals as goal

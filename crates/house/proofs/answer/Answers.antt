@@ -1,4 +1,4 @@
-use Rattle.std.proofs.Common.{◌≡◌, ◌≤◌, sym, refl, ap, ◌∙◌, subst, arith, length-take}
+use Rattle.std.proofs.Common.{sym, ap, ◌∙◌, subst, arith, length-take}
 use Rattle.house.specs.declared.Told.TheVariants.{Done, No}
 use Rattle.house.specs.Machine.{woken}
 use Rattle.house.specs.Entry.{from_eight, event_of, Answered}

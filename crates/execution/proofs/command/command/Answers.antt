@@ -20,11 +20,11 @@ plan_command-requires c =
     let m = c.args.memory.now in
     let f = found_within c.name_given.result.now r.kept.files m (slot_as c.find_file-slot.result) c.file_lines.result c.find_file-slot.ensures
     c.file_lines.ensures.total c.file_lines.ensures.few c.requires.1.1.0.kept.files in (
-      record {
-        sizes_fit = record { count = c.requires.1.1.0.kept.count; current = c.requires.1.1.0.kept.current; offset = c.file_lines.ensures.few };
-        slot_fits = record { before = f.before; lines = f.lines };
-        deed_len_bound = c.requires.1.1.1;
-      }
+    record {
+      sizes_fit = record { count = c.requires.1.1.0.kept.count; current = c.requires.1.1.0.kept.current; offset = c.file_lines.ensures.few };
+      slot_fits = record { before = f.before; lines = f.lines };
+      deed_len_bound = c.requires.1.1.1;
+    }
     )
 
 pub do_plan-requires : goal.do_plan-requires
