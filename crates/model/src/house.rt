@@ -200,7 +200,7 @@ impl House {
                 })
             }
             Err(Halt::Refused(why)) => self.refused(heap, why, most),
-            Err(Halt::Memory) => Err(AllocError),
+            Err(Halt::Memory(error)) => Err(error),
         }
     }
 

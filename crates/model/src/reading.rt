@@ -241,7 +241,7 @@ fn mark(text: &[u8]) -> Option<Deed<'_>> {
 
 /// Which match is replaced: none is said, all, or one from the first to the 999th.
 fn is_choice(text: &[u8]) -> bool {
-    if text.is_empty() || text == b"g" {
+    if text.is_empty() || text == b"g".as_slice() {
         return true;
     }
     digits(text) == text.len() && text.len() <= 3 && number(text) >= 1
