@@ -13,11 +13,11 @@ pub struct Console {
 }
 
 impl Console {
-    pub fn new(rt: &HostRuntime) -> Console {
-        Console {
-            input: BufReader::new(rt.stdin()),
-            output: BufWriter::new(rt.stdout()),
-        }
+    pub fn new(rt: &HostRuntime) -> io::Result<Console> {
+        Ok(Console {
+            input: BufReader::new(rt.alloc(), rt.stdin())?,
+            output: BufWriter::new(rt.alloc(), rt.stdout())?,
+        })
     }
 
     /// The next line at the end of `text`, without the byte that ends it, which the last one may lack. False where there is none.

@@ -1,8 +1,11 @@
 //! An editor by lines on two files that only get longer. What is typed is read from standard input; what is shown goes to standard output.
 
+#![tactic(auto)]
+
 use fault::Fault;
 use options::Call;
 use session::Session;
+use std::process::ExitCode;
 
 mod console;
 mod fault;
@@ -39,10 +42,12 @@ fn run(rt: &HostRuntime) -> Result<(), Fault> {
     }
 }
 
-fn main(rt: HostRuntime) -> Result<(), Fault> {
-    let ended = run(&rt);
-    if let Err(fault) = &ended {
-        let _ = eprintln!(rt; "editor: {fault}");
+fn main(rt: HostRuntime) -> ExitCode {
+    match run(&rt) {
+        Ok(()) => ExitCode::SUCCESS,
+        Err(fault) => {
+            let _ = eprintln!(rt; "editor: {fault}");
+            ExitCode::FAILURE
+        }
     }
-    ended
 }

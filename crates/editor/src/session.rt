@@ -60,7 +60,7 @@ impl Session {
             row: vec![in heap; 0; house::ROW]?,
             page: Vec::new(heap),
             tapes: Tapes::open(rt, first, second, room)?,
-            console: Console::new(rt),
+            console: Console::new(rt)?,
         })
     }
 
