@@ -23,6 +23,7 @@ pub struct Options {
 #[derive(Drop)]
 pub enum Call {
     Help,
+    Version,
     Edit(Options),
 }
 
@@ -86,6 +87,7 @@ pub fn read(rt: &HostRuntime) -> Result<Call, Fault> {
         }
         match arg.as_str() {
             "--help" => return Ok(Call::Help),
+            "--version" => return Ok(Call::Version),
             "--room" => is_room_next = true,
             other if other.starts_with("--") => return Err(Fault::Usage(Misuse::UnknownOption)),
             _ => names.push(arg)?,

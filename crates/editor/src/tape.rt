@@ -3,6 +3,8 @@
 ghost use Rattle.std.specs.Prelude.{◌≡◌, ◌+◌, ◌*◌, ◌%◌, ◌<◌, ◌≤◌};
 
 use crate::fault::{Astray, Doing, Fault};
+use inspection::{Damage, Tour, Wrong};
+use std::alloc::Global;
 use std::fs::{File, Metadata, OpenOptions};
 use std::io;
 use std::io::{Read, Seek, SeekFrom, Write};
@@ -13,7 +15,16 @@ pub const RECORD: usize = 512;
 
 const BYTES: u64 = 512;
 
+/// How many bytes are looked at together, 128 records.
+const BATCH: u64 = 65_536;
+
 const ZEROS: [u8; 512] = [0; 512];
+
+/// Of two heads one has to follow the other: of three generations in turn, two that differ do.
+const TWINS: Damage = Damage {
+    record: 0,
+    wrong: Wrong::Generation,
+};
 
 /// How many zeros a file of so many bytes lacks for its last record to be whole.
 fn missing(len: u64) -> usize
@@ -46,11 +57,12 @@ fn sync_folder(rt: &HostRuntime, name: &str) -> io::Result<()> {
     File::open(rt, folder)?.sync_all()
 }
 
-/// A file of records, how many it has, and how many it has room for.
+/// A file of records, how many bytes it had when it was opened, how many records it has, and how many it has room for.
 #[derive(Drop)]
 pub struct Tape {
     file: File,
     name: String,
+    bytes: u64,
     records: u64,
     room: u64,
 }
@@ -87,13 +99,15 @@ impl Tape {
         if !facts.is_file() {
             return Err(Fault::Irregular(name));
         }
-        let records = count(facts.len());
+        let bytes = facts.len();
+        let records = count(bytes);
         if records > room {
             return Err(Fault::TooLong { name, room });
         }
         Ok(Tape {
             file,
             name,
+            bytes,
             records,
             room,
         })
@@ -110,6 +124,35 @@ impl Tape {
         }
     }
 
+    fn damaged(&self, damage: Damage) -> Fault {
+        match self.name.clone() {
+            Ok(name) => Fault::Damaged { name, damage },
+            Err(_) => Fault::Memory,
+        }
+    }
+
+    /// Looks at every record before any is believed. The generation that the head names comes back, 0 where there is none.
+    pub fn inspect(&mut self, heap: Global) -> Result<u32, Fault> {
+        let mut tour = Tour::new();
+        let mut pages = Vec::new(heap);
+        let mut left = self.bytes;
+        for _ in 0..u64::MAX {
+            if left == 0 {
+                break;
+            }
+            let here = left.min(BATCH);
+            left -= here;
+            pages.resize(here as usize, 0)?;
+            if let Err(reason) = self.file.read_exact(pages.as_mut_slice()) {
+                return Err(self.fault(Doing::Read, reason));
+            }
+            if let Some(damage) = tour.look_on(pages.as_slice()) {
+                return Err(self.damaged(damage));
+            }
+        }
+        Ok(tour.generation())
+    }
+
     /// What a power cut left of a last record is made a whole one, with zeros behind, and durable.
     pub fn mend(&mut self, rt: &HostRuntime) -> Result<(), Fault> {
         if self.records == 0 {
@@ -118,11 +161,7 @@ impl Tape {
                 Err(reason) => Err(self.fault(Doing::Sync, reason)),
             };
         }
-        let len = match self.file.metadata() {
-            Ok(facts) => facts.len(),
-            Err(reason) => return Err(self.fault(Doing::Read, reason)),
-        };
-        let lacks = missing(len);
+        let lacks = missing(self.bytes);
         if lacks == 0 {
             return Ok(());
         }
@@ -207,6 +246,10 @@ impl Tapes {
     ) -> Result<Tapes, Fault> {
         let mut first = Tape::open(rt, first, room)?;
         let mut second = Tape::open(rt, second, room)?;
+        let generation = first.inspect(rt.alloc())?;
+        if generation == second.inspect(rt.alloc())? && generation != 0 {
+            return Err(second.damaged(TWINS));
+        }
         first.mend(rt)?;
         second.mend(rt)?;
         Ok(Tapes { first, second })
