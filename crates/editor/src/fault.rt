@@ -13,7 +13,6 @@ pub enum Doing {
     Sync,
     Begin,
     Lock,
-    Unlock,
 }
 
 impl fmt::Display for Doing {
@@ -24,8 +23,7 @@ impl fmt::Display for Doing {
             Doing::Append => "can't be written",
             Doing::Sync => "can't be made durable",
             Doing::Begin => "can't be emptied",
-            Doing::Lock => "can't be made",
-            Doing::Unlock => "can't be removed",
+            Doing::Lock => "can't be locked",
         })
     }
 }
@@ -108,10 +106,7 @@ impl fmt::Display for Fault {
                 reason,
             } => write!(f, "{name}: it {doing}: {reason}"),
             Fault::Irregular(name) => write!(f, "{name}: it is no regular file"),
-            Fault::Locked(name) => write!(
-                f,
-                "{name}: an editor, the process with the number in it, works on these files; if there is none, as after a crash, remove {name} and start again"
-            ),
+            Fault::Locked(name) => write!(f, "{name}: another editor works on it"),
             Fault::Damaged { name, damage } => {
                 let record = damage.record;
                 let wrong = damage.wrong;

@@ -3,14 +3,12 @@
 #![tactic(auto)]
 
 use fault::Fault;
-use lock::Lock;
-use options::{Call, Options};
+use options::Call;
 use session::Session;
 use std::process::ExitCode;
 
 mod console;
 mod fault;
-mod lock;
 mod options;
 mod progress;
 mod refusal;
@@ -25,7 +23,7 @@ const HELP: &str = "usage: editor [--room RECORDS] [FILE0 FILE1]
 Edits a text that is kept in two files, house.0 and house.1 unless others are
 named. They are made where they aren't there. RECORDS, from 1024 to 1048576,
 is how many records of 512 bytes a file may have, 65536 unless it is said.
-While it runs, FILE0.lock keeps other editors away from them.
+While it runs, other editors are kept away from them.
 
 Commands are read from standard input, one a line:
   a i c      put the lines that follow, up to one with only a dot, after a
@@ -40,25 +38,12 @@ An address alone shows that line. What can't be done is refused by a number:
 const VERSION: &str = "editor, proved with rattle-kit-13f logic dac8208d650f15bf
 ";
 
-/// Edits, while the lock is held.
-fn edit(rt: &HostRuntime, options: Options) -> Result<(), Fault> {
-    let lock = Lock::take(rt, options.first.as_str())?;
-    let ended = talk(rt, options);
-    let released = lock.release(rt);
-    ended?;
-    released
-}
-
-fn talk(rt: &HostRuntime, options: Options) -> Result<(), Fault> {
-    Session::open(rt, options)?.talk(rt)
-}
-
 /// Runs the editor as the arguments say.
 fn run(rt: &HostRuntime) -> Result<(), Fault> {
     match options::read(rt)? {
         Call::Help => rt.print(HELP)?,
         Call::Version => rt.print(VERSION)?,
-        Call::Edit(options) => edit(rt, options)?,
+        Call::Edit(options) => Session::open(rt, options)?.talk(rt)?,
     }
     Ok(())
 }

@@ -5,7 +5,7 @@ ghost use Rattle.std.specs.Prelude.{◌≡◌, ◌+◌, ◌*◌, ◌%◌, ◌<�
 use crate::fault::{Astray, Doing, Fault};
 use inspection::{Damage, Tour, Wrong};
 use std::alloc::Global;
-use std::fs::{File, Metadata, OpenOptions};
+use std::fs::{File, Metadata, OpenOptions, TryLockError};
 use std::io;
 use std::io::{Read, Seek, SeekFrom, Write};
 use std::path::Path;
@@ -68,7 +68,7 @@ pub struct Tape {
 }
 
 impl Tape {
-    /// The file of that name, which is made if it isn't there. Nothing is written yet.
+    /// The file of that name, which is made if it isn't there, and locked until it is closed. Nothing is written yet.
     pub fn open(rt: &HostRuntime, name: String, room: u64) -> Result<Tape, Fault> {
         let mut how = OpenOptions::new();
         let opened = how
@@ -84,6 +84,19 @@ impl Tape {
                 reason,
             }),
         };
+        match file.try_lock() {
+            Ok(()) => Tape::locked(file, name, room),
+            Err(TryLockError::WouldBlock) => Err(Fault::Locked(name)),
+            Err(TryLockError::Error(reason)) => Err(Fault::File {
+                name,
+                doing: Doing::Lock,
+                reason,
+            }),
+        }
+    }
+
+    /// A file that no other editor works on, as a tape, if it can be one.
+    fn locked(file: File, name: String, room: u64) -> Result<Tape, Fault> {
         match file.metadata() {
             Ok(facts) => Tape::measured(file, facts, name, room),
             Err(reason) => Err(Fault::File {
@@ -94,7 +107,7 @@ impl Tape {
         }
     }
 
-    /// A file that was opened, as a tape, if it can be one.
+    /// A file of which that is known, as a tape, if it can be one.
     fn measured(file: File, facts: Metadata, name: String, room: u64) -> Result<Tape, Fault> {
         if !facts.is_file() {
             return Err(Fault::Irregular(name));
