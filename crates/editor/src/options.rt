@@ -67,10 +67,7 @@ fn usual(heap: Global, room: u64) -> Result<Options, AllocError> {
 }
 
 fn said_room(text: &str) -> Result<u64, Fault> {
-    match room_of(text) {
-        Some(room) => Ok(room),
-        None => Err(Fault::Usage(Misuse::BadRoom)),
-    }
+    room_of(text).ok_or(Fault::Usage(Misuse::BadRoom))
 }
 
 /// What the arguments ask for.

@@ -156,9 +156,9 @@ impl Tape {
             let here = left.min(BATCH);
             left -= here;
             pages.resize(here as usize, 0)?;
-            if let Err(reason) = self.file.read_exact(pages.as_mut_slice()) {
-                return Err(self.fault(Doing::Read, reason));
-            }
+            self.file
+                .read_exact(pages.as_mut_slice())
+                .map_err(|reason| self.fault(Doing::Read, reason))?;
             if let Some(damage) = tour.look_on(pages.as_slice()) {
                 return Err(self.damaged(damage));
             }
@@ -169,19 +169,19 @@ impl Tape {
     /// What a power cut left of a last record is made a whole one, with zeros behind, and durable.
     pub fn mend(&mut self, rt: &HostRuntime) -> Result<(), Fault> {
         if self.records == 0 {
-            return match sync_folder(rt, self.name.as_str()) {
-                Ok(()) => Ok(()),
-                Err(reason) => Err(self.fault(Doing::Sync, reason)),
-            };
+            return sync_folder(rt, self.name.as_str()).map_err(|reason| self.fault(
+                Doing::Sync,
+                reason,
+            ));
         }
         let lacks = missing(self.bytes);
         if lacks == 0 {
             return Ok(());
         }
-        match self.file.write_all(&ZEROS[0..lacks]) {
-            Ok(()) => self.sync(),
-            Err(reason) => Err(self.fault(Doing::Append, reason)),
-        }
+        self.file
+            .write_all(&ZEROS[0..lacks])
+            .map_err(|reason| self.fault(Doing::Append, reason))?;
+        self.sync()
     }
 
     /// A record in place of what `page` holds; nothing behind the last.
@@ -191,10 +191,8 @@ impl Tape {
             return Ok(());
         }
         page.resize(RECORD, 0)?;
-        match self.read_at(record, page.as_mut_slice()) {
-            Ok(()) => Ok(()),
-            Err(reason) => Err(self.fault(Doing::Read, reason)),
-        }
+        self.read_at(record, page.as_mut_slice())
+            .map_err(|reason| self.fault(Doing::Read, reason))
     }
 
     fn read_at(&mut self, record: u64, page: &mut [u8]) -> io::Result<()> {
@@ -208,32 +206,26 @@ impl Tape {
         if self.records >= self.room {
             return Err(Fault::House(Astray::Full));
         }
-        match self.file.write_all(record) {
-            Ok(()) => {
-                self.records += 1;
-                Ok(())
-            }
-            Err(reason) => Err(self.fault(Doing::Append, reason)),
-        }
+        self.file
+            .write_all(record)
+            .map_err(|reason| self.fault(Doing::Append, reason))?;
+        self.records += 1;
+        Ok(())
     }
 
     /// What is on it is durable then.
     pub fn sync(&mut self) -> Result<(), Fault> {
-        match self.file.sync_data() {
-            Ok(()) => Ok(()),
-            Err(reason) => Err(self.fault(Doing::Sync, reason)),
-        }
+        self.file
+            .sync_data()
+            .map_err(|reason| self.fault(Doing::Sync, reason))
     }
 
     /// Without records, and durably so before anything else is done.
     pub fn begin(&mut self) -> Result<(), Fault> {
-        match self.emptied() {
-            Ok(()) => {
-                self.records = 0;
-                Ok(())
-            }
-            Err(reason) => Err(self.fault(Doing::Begin, reason)),
-        }
+        self.emptied()
+            .map_err(|reason| self.fault(Doing::Begin, reason))?;
+        self.records = 0;
+        Ok(())
     }
 
     fn emptied(&mut self) -> io::Result<()> {
