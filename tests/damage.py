@@ -145,8 +145,6 @@ def killed_pair(rnd, folder):
         process.send_signal(signal.SIGKILL)
         process.wait()
     os.remove(os.path.join(folder, "typed"))
-    if os.path.exists(os.path.join(folder, "house.0.lock")):
-        os.remove(os.path.join(folder, "house.0.lock"))
 
 
 def ended_pair(rnd, folder):
@@ -228,8 +226,8 @@ def look(folder, files):
     said = done.stderr.decode(errors="replace")
     if done.returncode not in (0, 1):
         return f"status {done.returncode}: {said}", expected
-    if os.path.exists(os.path.join(folder, "house.0.lock")):
-        return "the lock is left over", expected
+    if set(os.listdir(folder)) != {"house.0", "house.1"}:
+        return "another file is left over", expected
     if expected is None and "is damaged" in said:
         return f"refused without a reason: {said}", expected
     if expected is not None:

@@ -181,12 +181,6 @@ def look(folder, room):
     return done.stdout
 
 
-def unlock(folder):
-    path = os.path.join(folder, "house.0.lock")
-    if os.path.exists(path):
-        os.remove(path)
-
-
 class Tally:
     def __init__(self):
         self.kills = self.before = self.after = self.both = self.waking = self.commands = 0
@@ -200,7 +194,6 @@ def one_kill(rnd, folder, room, largest, state, tally):
     process = start(folder, room, path)
     wanted = rnd.randrange(len(day)) if rnd.random() < 0.8 else 0
     out, ended = kill(process, wanted, rnd.random() * (0.004 if wanted else 0.03))
-    unlock(folder)
     rows = out.decode().split("\n")[:-1]
     old, new = follow(state, day, rows)
     tally.kills += not ended

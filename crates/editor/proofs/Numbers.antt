@@ -1,5 +1,5 @@
 -- The number that eight bytes write, the highest first.
-use Rattle.std.proofs.Common.{◌≡◌, ℕ, ◌+◌, ◌-◌, ◌*◌, ◌≤◌, List, [], ◌∷◌, length, get_or, take, drop, refl, ◌∙◌, arith, length-drop, take_all}
+use Rattle.std.proofs.Common.{◌≡◌, ℕ, ◌+◌, ◌-◌, ◌*◌, ◌≤◌, List, [], ◌∷◌, length, get_or, take, drop, ◌∙◌, arith, length-drop, take_all}
 use native.Mathlib.Nat.{sub-zero}
 use Rattle.house.specs.Entry.{from_eight}
 

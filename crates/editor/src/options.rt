@@ -23,6 +23,7 @@ pub struct Options {
 #[derive(Drop)]
 pub enum Call {
     Help,
+    Version,
     Edit(Options),
 }
 
@@ -66,10 +67,7 @@ fn usual(heap: Global, room: u64) -> Result<Options, AllocError> {
 }
 
 fn said_room(text: &str) -> Result<u64, Fault> {
-    match room_of(text) {
-        Some(room) => Ok(room),
-        None => Err(Fault::Usage(Misuse::BadRoom)),
-    }
+    room_of(text).ok_or(Fault::Usage(Misuse::BadRoom))
 }
 
 /// What the arguments ask for.
@@ -86,6 +84,7 @@ pub fn read(rt: &HostRuntime) -> Result<Call, Fault> {
         }
         match arg.as_str() {
             "--help" => return Ok(Call::Help),
+            "--version" => return Ok(Call::Version),
             "--room" => is_room_next = true,
             other if other.starts_with("--") => return Err(Fault::Usage(Misuse::UnknownOption)),
             _ => names.push(arg)?,

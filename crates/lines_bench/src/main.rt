@@ -1,5 +1,7 @@
 //! How long the moves of a directory of 500,000 entries take. Times go to standard error, since they vary.
 
+#![tactic(auto)]
+
 use std::alloc::Global;
 use std::time::Instant;
 

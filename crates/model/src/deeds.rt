@@ -104,20 +104,11 @@ fn given_lines(heap: Global, given: Given<'_>) -> Result<Vec<Vec<u8>>, Halt> {
     let Some(text) = given.text else {
         return Ok(lines);
     };
-    let mut line = Vec::new(heap);
-    for byte in text {
-        if *byte == b'\n' {
-            lines.push(line)?;
-            line = Vec::new(heap);
-        } else {
-            line.push(*byte)?;
-        }
-    }
-    lines.push(line)?;
-    for line in lines.iter() {
+    for line in text.split(|byte| *byte == b'\n') {
         if line.len() > MOST_BYTES {
             return Err(Halt::Refused(Refusal::TooLong));
         }
+        lines.push(Vec::from_slice(heap, line)?)?;
     }
     Ok(lines)
 }
@@ -326,16 +317,9 @@ pub fn obey(house: &House, heap: Global, command: Command<'_>) -> Result<Outcome
 
 /// How many lines are given.
 fn given_count(given: Given<'_>) -> u64 {
-    let Some(text) = given.text else {
-        return 0;
-    };
-    let mut count: u64 = 1;
-    for byte in text {
-        if *byte == b'\n' {
-            count = count.saturating_add(1);
-        }
-    }
-    count
+    given
+        .text
+        .map_or(0, |text| text.split(|byte| *byte == b'\n').count() as u64)
 }
 
 /// How many records a command may read and put on, but for the rows that it shows; none where that isn't bounded.

@@ -45,20 +45,15 @@ pub struct Turn {
 impl Turn {
     /// The number that is told at the end, 0 where it is done.
     pub fn number(&self) -> u64 {
-        match self.refusal {
-            Some(refusal) => refusal as u64,
-            None => 0,
-        }
+        self.refusal.map_or(0, |refusal| refusal as u64)
     }
 }
 
 /// What lines weigh.
 fn lines_weight(lines: &Vec<Vec<u8>>) -> u64 {
-    let mut sum: u64 = 0;
-    for line in lines.iter() {
-        sum = sum.saturating_add(LINE).saturating_add(line.len() as u64);
-    }
-    sum
+    lines.iter().fold(0, |sum: u64, line| {
+        sum.saturating_add(LINE).saturating_add(line.len() as u64)
+    })
 }
 
 impl House {
@@ -156,12 +151,10 @@ impl House {
 
     /// The lines of a file.
     pub fn file(&self, name: &[u8]) -> Option<&Vec<Vec<u8>>> {
-        for file in self.files.iter() {
-            if file.name.as_slice() == name {
-                return Some(&file.lines);
-            }
-        }
-        None
+        self.files
+            .iter()
+            .find(|file| file.name.as_slice() == name)
+            .map(|file| &file.lines)
     }
 
     fn refused(
@@ -188,19 +181,15 @@ impl House {
                     return self.refused(heap, Refusal::NoRoom, None);
                 }
                 let shown = (rows.len() as u64).saturating_mul(deeds::RECORDS_EACH);
-                let most_records = match most {
-                    Some(most) => Some(most.saturating_add(shown)),
-                    None => None,
-                };
                 Ok(Turn {
                     refusal: None,
                     rows,
                     next,
-                    most_records,
+                    most_records: most.map(|most| most.saturating_add(shown)),
                 })
             }
             Err(Halt::Refused(why)) => self.refused(heap, why, most),
-            Err(Halt::Memory) => Err(AllocError),
+            Err(Halt::Memory(error)) => Err(error),
         }
     }
 

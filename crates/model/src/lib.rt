@@ -1,6 +1,8 @@
 //! A plain house, written once more from the rules: a text of lines, where one is in it, files, and what the changes before weigh. It shares
 //! nothing with the machine, so that what the machine does can be held against it.
 
+#![tactic(auto)]
+
 mod deeds;
 mod house;
 mod reading;

@@ -78,22 +78,12 @@ const HERE: Address = Address {
 
 /// What stands behind the first so many bytes.
 fn behind(text: &[u8], count: usize) -> &[u8] {
-    match text.get(count..) {
-        Some(rest) => rest,
-        None => &[],
-    }
+    text.get(count..).unwrap_or(&[])
 }
 
 /// How many digits stand in front.
 fn digits(text: &[u8]) -> usize {
-    let mut count: usize = 0;
-    for byte in text {
-        if !byte.is_ascii_digit() {
-            break;
-        }
-        count = count.saturating_add(1);
-    }
-    count
+    text.iter().take_while(|byte| byte.is_ascii_digit()).count()
 }
 
 /// The number that the digits in front write.
@@ -122,17 +112,15 @@ fn past(end: u8, text: &[u8]) -> Option<&[u8]> {
 }
 
 fn is_letter(text: &[u8]) -> bool {
-    match text.first() {
-        Some(letter) => letter.is_ascii_lowercase(),
-        None => false,
-    }
+    text.first()
+        .is_some_and(|letter| letter.is_ascii_lowercase())
 }
 
 fn starts_address(text: &[u8]) -> bool {
-    match text.first() {
-        Some(b'.' | b'$' | b'\'' | b'/' | b'?' | b'+' | b'-' | b'0'..=b'9') => true,
-        _ => false,
-    }
+    matches!(
+        text.first(),
+        Some(b'.' | b'$' | b'\'' | b'/' | b'?' | b'+' | b'-' | b'0'..=b'9')
+    )
 }
 
 fn read_base(text: &[u8]) -> Option<(Base, &[u8])> {
@@ -241,7 +229,7 @@ fn mark(text: &[u8]) -> Option<Deed<'_>> {
 
 /// Which match is replaced: none is said, all, or one from the first to the 999th.
 fn is_choice(text: &[u8]) -> bool {
-    if text.is_empty() || text == b"g" {
+    if text.is_empty() || text == b"g".as_slice() {
         return true;
     }
     digits(text) == text.len() && text.len() <= 3 && number(text) >= 1

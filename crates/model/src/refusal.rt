@@ -17,17 +17,17 @@ pub enum Refusal {
 #[derive(Drop)]
 pub enum Halt {
     Refused(Refusal),
-    Memory,
+    Memory(AllocError),
 }
 
 impl From<AllocError> for Halt {
-    fn from(_error: AllocError) -> Halt {
-        Halt::Memory
+    fn from(error: AllocError) -> Halt {
+        Halt::Memory(error)
     }
 }
 
 impl<T: Drop> From<AllocFailed<T>> for Halt {
-    fn from(_error: AllocFailed<T>) -> Halt {
-        Halt::Memory
+    fn from(error: AllocFailed<T>) -> Halt {
+        Halt::Memory(AllocError::from(error))
     }
 }

@@ -36,7 +36,7 @@ fn takes_lines(typed: &[u8]) -> bool
 fn take_lines(heap: Global, input: &mut impl BufRead, typed: &mut Vec<u8>) -> io::Result<()> {
     let mut line = Vec::new(heap);
     for _ in 0..u64::MAX {
-        if !next_line(input, &mut line)? || line.as_slice() == b"." {
+        if !next_line(input, &mut line)? || line.as_slice() == b".".as_slice() {
             break;
         }
         typed.push(b'\n')?;

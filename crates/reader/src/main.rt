@@ -1,6 +1,9 @@
 //! Reads typed lines from standard input and prints how each is read, in words.
 //!
 //! After a command that takes lines the lines up to one with only a dot are given to it.
+
+#![tactic(auto)]
+
 mod failure;
 mod input;
 mod quoted;

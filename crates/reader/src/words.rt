@@ -226,6 +226,7 @@ impl fmt::Display for Otherwise {
 }
 
 /// What a deed takes if no range was typed.
+#[tactic(auto, unfolding(plain::specs::House::takes))]
 fn default_range(deed: &Deed<'_>) -> Otherwise
     ensures { default_number result ≡ takes (deed_of deed.now) }
 {
@@ -239,6 +240,7 @@ fn default_range(deed: &Deed<'_>) -> Otherwise
 }
 
 /// The same for each line of a global command: an address alone that isn't one is the line itself.
+#[tactic(auto, unfolding(plain::specs::House::takes, plain::specs::House::is_go))]
 fn default_for_each(deed: &Deed<'_>) -> Otherwise
     ensures { default_number result ≡ for_each (deed_of deed.now) }
 {

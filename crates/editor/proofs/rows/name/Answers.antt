@@ -3,4 +3,4 @@ use Rattle.editor.proofs.rows.name.Goals as goal
 
 pub returns : goal.returns
 returns c =
-    parts_are c.in-ok-len.len _ c.in-ok-len.rest.now _ c.in-ok-len.ensures.0 c.in-ok-len.ensures.1
+    parts_are c.in_ok-len.len _ c.in_ok-len.rest.now _ c.in_ok-len.ensures.0 c.in_ok-len.ensures.1

@@ -6,6 +6,6 @@ pub returns-then-branch-2 : goal.returns-then-branch-2
 unfolding begins
 returns-then-branch-2 c = search rules
 
-pub returns-in-ok-lettered : goal.returns-in-ok-lettered
+pub returns-in_ok-lettered : goal.returns-in_ok-lettered
 unfolding begins
-returns-in-ok-lettered c = search rules
+returns-in_ok-lettered c = search rules

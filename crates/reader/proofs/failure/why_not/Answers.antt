@@ -5,4 +5,4 @@ use Rattle.reader.proofs.failure.why_not.Goals as goal
 
 pub returns-then-front-typed : goal.returns-then-front-typed
 returns-then-front-typed c =
-    ap begins (sym (take_all c.in-ok-front.front c.args.typed.now (omega arith))) ∙ c.in-ok-front.ensures.so_far
+    ap begins (sym (take_all c.in_ok-front.front c.args.typed.now (omega arith))) ∙ c.in_ok-front.ensures.so_far
