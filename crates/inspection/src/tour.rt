@@ -97,7 +97,7 @@ impl Tour {
 
     /// A record that was written whole.
     fn record(&mut self, page: &[u8], is_first: bool) -> Result<(), Wrong> {
-        match records::decode(page) {
+        match records::decode_checked(page) {
             Record::Broken => Err(Wrong::Kind),
             Record::Head {
                 generation,
