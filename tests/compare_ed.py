@@ -16,7 +16,7 @@ import tempfile
 import time
 
 HERE = os.path.dirname(os.path.dirname(os.path.abspath(__file__)))
-EDITOR = os.path.join(HERE, "crates", "editor", "out", "editor")
+EDITOR = os.path.join(HERE, "crates", "core_editor", "out", "core_editor")
 ROOM = "1048576"
 NO_SYNC = "int fsync(int fd) { return 0; }\nint fdatasync(int fd) { return 0; }\n"
 

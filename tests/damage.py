@@ -16,7 +16,7 @@ import tempfile
 import time
 
 HERE = os.path.dirname(os.path.dirname(os.path.abspath(__file__)))
-EDITOR = os.path.join(HERE, "crates", "editor", "out", "editor")
+EDITOR = os.path.join(HERE, "crates", "core_editor", "out", "core_editor")
 PAGE = 512
 SECONDS = 20
 PROBE = b"%p\nf\n$=\na\nnew\n.\n%d\n"

@@ -17,7 +17,7 @@ import tempfile
 import time
 
 HERE = os.path.dirname(os.path.dirname(os.path.abspath(__file__)))
-EDITOR = os.path.join(HERE, "crates", "editor", "out", "editor")
+EDITOR = os.path.join(HERE, "crates", "core_editor", "out", "core_editor")
 LONGEST = 1024
 
 

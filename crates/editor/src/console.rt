@@ -1,20 +1,15 @@
 //! What is typed and what is shown: bytes, of which only the one that ends a line has a meaning.
 
+use crate::rows;
 use crate::rows::Rows;
-use crate::{refusal, rows};
 use std::io;
-use std::io::{BufRead, BufReader, BufWriter, IsTerminal, Stdin, Stdout, Write};
+use std::io::{BufRead, BufReader, BufWriter, Stdin, Stdout, Write};
 
-/// Stands before each line that is given to a command.
-const GIVEN: &[u8] = b": ";
-
-/// Standard input and output, and whether a person is at either.
+/// Standard input and output.
 #[derive(Drop)]
 pub struct Console {
     input: BufReader<Stdin>,
     output: BufWriter<Stdout>,
-    is_typed: bool,
-    is_seen: bool,
 }
 
 impl Console {
@@ -22,31 +17,7 @@ impl Console {
         Ok(Console {
             input: BufReader::new(rt.alloc(), rt.stdin())?,
             output: BufWriter::new(rt.alloc(), rt.stdout())?,
-            is_typed: rt.stdin().is_terminal(),
-            is_seen: rt.stdout().is_terminal(),
         })
-    }
-
-    /// Whether a prompt is wanted.
-    pub fn is_typed(&self) -> bool {
-        self.is_typed
-    }
-
-    /// Asks a person for the next line that is given to a command.
-    pub fn ask_given(&mut self) -> io::Result<()> {
-        if !self.is_typed {
-            return Ok(());
-        }
-        self.output.write_all(GIVEN)?;
-        self.output.flush()
-    }
-
-    /// A person's last prompt gets its end.
-    pub fn leave(&mut self) -> io::Result<()> {
-        if self.is_typed {
-            self.output.write_all(b"\n")?;
-        }
-        self.output.flush()
     }
 
     /// The next line at the end of `text`, without the byte that ends it, which the last one may lack. False where there is none.
@@ -65,12 +36,9 @@ impl Console {
         rows::write_row(&mut self.output, rows, row)
     }
 
-    /// That a command was refused, to a person in words too.
+    /// That a command was refused.
     pub fn refuse(&mut self, number: u64) -> io::Result<()> {
-        match refusal::words(number) {
-            Some(words) if self.is_seen => writeln!(self.output, "refused {number}: {words}"),
-            _ => writeln!(self.output, "refused {number}"),
-        }
+        writeln!(self.output, "refused {number}")
     }
 
     /// Whatever was shown can be seen then.

@@ -1,6 +1,5 @@
 //! Why the program ends before its input does.
 
-use inspection::Damage;
 use std::alloc::{AllocError, AllocFailed};
 use std::{fmt, io};
 
@@ -12,7 +11,6 @@ pub enum Doing {
     Append,
     Sync,
     Begin,
-    Lock,
 }
 
 impl fmt::Display for Doing {
@@ -23,7 +21,6 @@ impl fmt::Display for Doing {
             Doing::Append => "can't be written",
             Doing::Sync => "can't be made durable",
             Doing::Begin => "can't be emptied",
-            Doing::Lock => "can't be locked",
         })
     }
 }
@@ -41,7 +38,7 @@ pub enum Misuse {
 impl fmt::Display for Misuse {
     fn fmt<W: fmt::Write>(&self, f: &mut fmt::Formatter<W>) -> fmt::Result {
         f.write_str(match *self {
-            Misuse::UnknownOption => "there are only the options --room, --help and --version",
+            Misuse::UnknownOption => "there are only the options --room and --help",
             Misuse::NoRoom => "--room needs a number of records behind it",
             Misuse::BadRoom => "the room is a number from 1024 to 1048576",
             Misuse::Files => "there are two files to name, or none",
@@ -82,11 +79,6 @@ pub enum Fault {
         reason: io::Error,
     },
     Irregular(String),
-    Locked(String),
-    Damaged {
-        name: String,
-        damage: Damage,
-    },
     TooLong {
         name: String,
         room: u64,
@@ -106,12 +98,6 @@ impl fmt::Display for Fault {
                 reason,
             } => write!(f, "{name}: it {doing}: {reason}"),
             Fault::Irregular(name) => write!(f, "{name}: it is no regular file"),
-            Fault::Locked(name) => write!(f, "{name}: another editor works on it"),
-            Fault::Damaged { name, damage } => {
-                let record = damage.record;
-                let wrong = damage.wrong;
-                write!(f, "{name}: it is damaged at record {record}: {wrong}")
-            }
             Fault::TooLong { name, room } => write!(
                 f,
                 "{name}: it has more than the {room} records that there is room for"

@@ -10,20 +10,16 @@ use std::process::ExitCode;
 mod console;
 mod fault;
 mod options;
-mod progress;
-mod refusal;
 mod rows;
 mod session;
 mod tape;
 mod typing;
 
 const HELP: &str = "usage: editor [--room RECORDS] [FILE0 FILE1]
-       editor --help | --version
 
 Edits a text that is kept in two files, house.0 and house.1 unless others are
 named. They are made where they aren't there. RECORDS, from 1024 to 1048576,
 is how many records of 512 bytes a file may have, 65536 unless it is said.
-While it runs, other editors are kept away from them.
 
 Commands are read from standard input, one a line:
   a i c      put the lines that follow, up to one with only a dot, after a
@@ -35,17 +31,15 @@ An address alone shows that line. What can't be done is refused by a number:
 1 what can't be read, 2 what isn't known yet, which today is all of these.
 ";
 
-const VERSION: &str = "editor, proved with rattle-kit-13f logic dac8208d650f15bf
-";
-
 /// Runs the editor as the arguments say.
 fn run(rt: &HostRuntime) -> Result<(), Fault> {
     match options::read(rt)? {
-        Call::Help => rt.print(HELP)?,
-        Call::Version => rt.print(VERSION)?,
-        Call::Edit(options) => Session::open(rt, options)?.talk(rt)?,
+        Call::Help => {
+            rt.print(HELP)?;
+            Ok(())
+        }
+        Call::Edit(options) => Session::open(rt, options)?.talk(),
     }
-    Ok(())
 }
 
 fn main(rt: HostRuntime) -> ExitCode {

@@ -23,7 +23,6 @@ pub struct Options {
 #[derive(Drop)]
 pub enum Call {
     Help,
-    Version,
     Edit(Options),
 }
 
@@ -67,7 +66,10 @@ fn usual(heap: Global, room: u64) -> Result<Options, AllocError> {
 }
 
 fn said_room(text: &str) -> Result<u64, Fault> {
-    room_of(text).ok_or(Fault::Usage(Misuse::BadRoom))
+    match room_of(text) {
+        Some(room) => Ok(room),
+        None => Err(Fault::Usage(Misuse::BadRoom)),
+    }
 }
 
 /// What the arguments ask for.
@@ -84,7 +86,6 @@ pub fn read(rt: &HostRuntime) -> Result<Call, Fault> {
         }
         match arg.as_str() {
             "--help" => return Ok(Call::Help),
-            "--version" => return Ok(Call::Version),
             "--room" => is_room_next = true,
             other if other.starts_with("--") => return Err(Fault::Usage(Misuse::UnknownOption)),
             _ => names.push(arg)?,

@@ -17,8 +17,6 @@ pub enum Rows {
     Counts,
     /// The length of a file's name, the name, and how many lines it has.
     Files,
-    /// The current line's number, which a person is asked for a command with.
-    Prompt,
 }
 
 /// The number at the front of a row, and what stands behind it.
@@ -70,19 +68,13 @@ fn write_file<W: Write>(out: &mut W, row: &[u8]) -> io::Result<()> {
     write_count(out, count)
 }
 
-fn write_prompt<W: Write>(out: &mut W, row: &[u8]) -> io::Result<()> {
-    write_count(out, row)?;
-    out.write_all(b"> ")
-}
-
-/// A row as a line of text, a prompt without its end. One that hasn't the bytes that it should have is written as it is.
+/// A row as a line of text. One that hasn't the bytes that it should have is written as it is.
 pub fn write_row<W: Write>(out: &mut W, rows: Rows, row: &[u8]) -> io::Result<()> {
     match rows {
         Rows::Lines => out.write_all(row)?,
         Rows::Numbered => write_numbered(out, row)?,
         Rows::Counts => write_count(out, row)?,
         Rows::Files => write_file(out, row)?,
-        Rows::Prompt => return write_prompt(out, row),
     }
     out.write_all(b"\n")
 }

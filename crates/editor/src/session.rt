@@ -3,15 +3,11 @@
 use crate::console::Console;
 use crate::fault::{Astray, Fault};
 use crate::options::Options;
-use crate::progress::Progress;
 use crate::rows::Rows;
 use crate::tape::{RECORD, Tapes};
 use crate::typing;
 use house::Told;
 use std::alloc::Global;
-
-/// The command that shows the current line's number.
-const WHERE: &[u8] = b".=";
 
 /// What the house is told.
 #[derive(Clone, Copy)]
@@ -69,45 +65,17 @@ impl Session {
     }
 
     /// Power, and then what is typed, to the end of the input.
-    pub fn talk(&mut self, rt: &HostRuntime) -> Result<(), Fault> {
-        self.wake(rt)?;
+    pub fn talk(&mut self) -> Result<(), Fault> {
+        let room = self.room.to_be_bytes();
+        let End::Done = self.tell(Event::Power, &room, Rows::Lines)? else {
+            return Err(Fault::House(Astray::Power));
+        };
         let mut text = Vec::new(self.heap);
         for _ in 0..u64::MAX {
-            self.prompt()?;
             if !typing::read_command(self.heap, &mut self.console, &mut text)? {
                 break;
             }
             self.command(text.as_slice())?;
-        }
-        self.console.leave()?;
-        Ok(())
-    }
-
-    /// Power comes.
-    fn wake(&mut self, rt: &HostRuntime) -> Result<(), Fault> {
-        let room = self.room.to_be_bytes();
-        let mut told = self.step(Event::Power, &room);
-        let mut progress = Progress::new(rt)?;
-        for _ in 0..u64::MAX {
-            told = match self.act(told, Rows::Lines)? {
-                After::Record => self.step_record(),
-                After::Next => self.step(Event::Next, &[]),
-                After::End(End::Done) => {
-                    progress.end(rt)?;
-                    return Ok(());
-                }
-                After::End(End::Refused(_)) => return Err(Fault::House(Astray::Power)),
-            };
-            progress.tick(rt)?;
-        }
-        Err(Fault::House(Astray::Endless))
-    }
-
-    /// Asks a person for a command, by the current line's number.
-    fn prompt(&mut self) -> Result<(), Fault> {
-        if self.console.is_typed() {
-            let _ = self.tell(Event::Command, WHERE, Rows::Prompt)?;
-            self.console.flush()?;
         }
         Ok(())
     }
@@ -122,24 +90,20 @@ impl Session {
 
     /// One event, and all acts that follow from it.
     fn tell(&mut self, event: Event, bytes: &[u8], rows: Rows) -> Result<End, Fault> {
-        let mut told = self.step(event, bytes);
-        for _ in 0..u64::MAX {
-            told = match self.act(told, rows)? {
-                After::Record => self.step_record(),
-                After::Next => self.step(Event::Next, &[]),
-                After::End(end) => return Ok(end),
-            };
-        }
-        Err(Fault::House(Astray::Endless))
-    }
-
-    fn step(&mut self, event: Event, bytes: &[u8]) -> Told {
-        house::step(
+        let mut told = house::step(
             self.memory.as_mut_slice(),
             event as u64,
             bytes,
             self.row.as_mut_slice(),
-        )
+        );
+        for _ in 0..u64::MAX {
+            told = match self.act(told, rows)? {
+                After::Record => self.step_record(),
+                After::Next => self.step_next(),
+                After::End(end) => return Ok(end),
+            };
+        }
+        Err(Fault::House(Astray::Endless))
     }
 
     fn step_record(&mut self) -> Told {
@@ -147,6 +111,15 @@ impl Session {
             self.memory.as_mut_slice(),
             Event::Record as u64,
             self.page.as_slice(),
+            self.row.as_mut_slice(),
+        )
+    }
+
+    fn step_next(&mut self) -> Told {
+        house::step(
+            self.memory.as_mut_slice(),
+            Event::Next as u64,
+            &[],
             self.row.as_mut_slice(),
         )
     }

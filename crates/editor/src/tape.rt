@@ -3,9 +3,7 @@
 ghost use Rattle.std.specs.Prelude.{◌≡◌, ◌+◌, ◌*◌, ◌%◌, ◌<◌, ◌≤◌};
 
 use crate::fault::{Astray, Doing, Fault};
-use inspection::{Damage, Tour, Wrong};
-use std::alloc::Global;
-use std::fs::{File, Metadata, OpenOptions, TryLockError};
+use std::fs::{File, Metadata, OpenOptions};
 use std::io;
 use std::io::{Read, Seek, SeekFrom, Write};
 use std::path::Path;
@@ -15,16 +13,7 @@ pub const RECORD: usize = 512;
 
 const BYTES: u64 = 512;
 
-/// How many bytes are looked at together, 128 records.
-const BATCH: u64 = 65_536;
-
 const ZEROS: [u8; 512] = [0; 512];
-
-/// Of two heads one has to follow the other: of three generations in turn, two that differ do.
-const TWINS: Damage = Damage {
-    record: 0,
-    wrong: Wrong::Generation,
-};
 
 /// How many zeros a file of so many bytes lacks for its last record to be whole.
 fn missing(len: u64) -> usize
@@ -57,18 +46,17 @@ fn sync_folder(rt: &HostRuntime, name: &str) -> io::Result<()> {
     File::open(rt, folder)?.sync_all()
 }
 
-/// A file of records, how many bytes it had when it was opened, how many records it has, and how many it has room for.
+/// A file of records, how many it has, and how many it has room for.
 #[derive(Drop)]
 pub struct Tape {
     file: File,
     name: String,
-    bytes: u64,
     records: u64,
     room: u64,
 }
 
 impl Tape {
-    /// The file of that name, which is made if it isn't there, and locked until it is closed. Nothing is written yet.
+    /// The file of that name, which is made if it isn't there. Nothing is written yet.
     pub fn open(rt: &HostRuntime, name: String, room: u64) -> Result<Tape, Fault> {
         let mut how = OpenOptions::new();
         let opened = how
@@ -84,19 +72,6 @@ impl Tape {
                 reason,
             }),
         };
-        match file.try_lock() {
-            Ok(()) => Tape::locked(file, name, room),
-            Err(TryLockError::WouldBlock) => Err(Fault::Locked(name)),
-            Err(TryLockError::Error(reason)) => Err(Fault::File {
-                name,
-                doing: Doing::Lock,
-                reason,
-            }),
-        }
-    }
-
-    /// A file that no other editor works on, as a tape, if it can be one.
-    fn locked(file: File, name: String, room: u64) -> Result<Tape, Fault> {
         match file.metadata() {
             Ok(facts) => Tape::measured(file, facts, name, room),
             Err(reason) => Err(Fault::File {
@@ -107,20 +82,18 @@ impl Tape {
         }
     }
 
-    /// A file of which that is known, as a tape, if it can be one.
+    /// A file that was opened, as a tape, if it can be one.
     fn measured(file: File, facts: Metadata, name: String, room: u64) -> Result<Tape, Fault> {
         if !facts.is_file() {
             return Err(Fault::Irregular(name));
         }
-        let bytes = facts.len();
-        let records = count(bytes);
+        let records = count(facts.len());
         if records > room {
             return Err(Fault::TooLong { name, room });
         }
         Ok(Tape {
             file,
             name,
-            bytes,
             records,
             room,
         })
@@ -137,51 +110,26 @@ impl Tape {
         }
     }
 
-    fn damaged(&self, damage: Damage) -> Fault {
-        match self.name.clone() {
-            Ok(name) => Fault::Damaged { name, damage },
-            Err(_) => Fault::Memory,
-        }
-    }
-
-    /// Looks at every record before any is believed. The generation that the head names comes back, 0 where there is none.
-    pub fn inspect(&mut self, heap: Global) -> Result<u32, Fault> {
-        let mut tour = Tour::new();
-        let mut pages = Vec::new(heap);
-        let mut left = self.bytes;
-        for _ in 0..u64::MAX {
-            if left == 0 {
-                break;
-            }
-            let here = left.min(BATCH);
-            left -= here;
-            pages.resize(here as usize, 0)?;
-            self.file
-                .read_exact(pages.as_mut_slice())
-                .map_err(|reason| self.fault(Doing::Read, reason))?;
-            if let Some(damage) = tour.look_on(pages.as_slice()) {
-                return Err(self.damaged(damage));
-            }
-        }
-        Ok(tour.generation())
-    }
-
     /// What a power cut left of a last record is made a whole one, with zeros behind, and durable.
     pub fn mend(&mut self, rt: &HostRuntime) -> Result<(), Fault> {
         if self.records == 0 {
-            return sync_folder(rt, self.name.as_str()).map_err(|reason| self.fault(
-                Doing::Sync,
-                reason,
-            ));
+            return match sync_folder(rt, self.name.as_str()) {
+                Ok(()) => Ok(()),
+                Err(reason) => Err(self.fault(Doing::Sync, reason)),
+            };
         }
-        let lacks = missing(self.bytes);
+        let len = match self.file.metadata() {
+            Ok(facts) => facts.len(),
+            Err(reason) => return Err(self.fault(Doing::Read, reason)),
+        };
+        let lacks = missing(len);
         if lacks == 0 {
             return Ok(());
         }
-        self.file
-            .write_all(&ZEROS[0..lacks])
-            .map_err(|reason| self.fault(Doing::Append, reason))?;
-        self.sync()
+        match self.file.write_all(&ZEROS[0..lacks]) {
+            Ok(()) => self.sync(),
+            Err(reason) => Err(self.fault(Doing::Append, reason)),
+        }
     }
 
     /// A record in place of what `page` holds; nothing behind the last.
@@ -191,8 +139,10 @@ impl Tape {
             return Ok(());
         }
         page.resize(RECORD, 0)?;
-        self.read_at(record, page.as_mut_slice())
-            .map_err(|reason| self.fault(Doing::Read, reason))
+        match self.read_at(record, page.as_mut_slice()) {
+            Ok(()) => Ok(()),
+            Err(reason) => Err(self.fault(Doing::Read, reason)),
+        }
     }
 
     fn read_at(&mut self, record: u64, page: &mut [u8]) -> io::Result<()> {
@@ -206,26 +156,32 @@ impl Tape {
         if self.records >= self.room {
             return Err(Fault::House(Astray::Full));
         }
-        self.file
-            .write_all(record)
-            .map_err(|reason| self.fault(Doing::Append, reason))?;
-        self.records += 1;
-        Ok(())
+        match self.file.write_all(record) {
+            Ok(()) => {
+                self.records += 1;
+                Ok(())
+            }
+            Err(reason) => Err(self.fault(Doing::Append, reason)),
+        }
     }
 
     /// What is on it is durable then.
     pub fn sync(&mut self) -> Result<(), Fault> {
-        self.file
-            .sync_data()
-            .map_err(|reason| self.fault(Doing::Sync, reason))
+        match self.file.sync_data() {
+            Ok(()) => Ok(()),
+            Err(reason) => Err(self.fault(Doing::Sync, reason)),
+        }
     }
 
     /// Without records, and durably so before anything else is done.
     pub fn begin(&mut self) -> Result<(), Fault> {
-        self.emptied()
-            .map_err(|reason| self.fault(Doing::Begin, reason))?;
-        self.records = 0;
-        Ok(())
+        match self.emptied() {
+            Ok(()) => {
+                self.records = 0;
+                Ok(())
+            }
+            Err(reason) => Err(self.fault(Doing::Begin, reason)),
+        }
     }
 
     fn emptied(&mut self) -> io::Result<()> {
@@ -251,10 +207,6 @@ impl Tapes {
     ) -> Result<Tapes, Fault> {
         let mut first = Tape::open(rt, first, room)?;
         let mut second = Tape::open(rt, second, room)?;
-        let generation = first.inspect(rt.alloc())?;
-        if generation == second.inspect(rt.alloc())? && generation != 0 {
-            return Err(second.damaged(TWINS));
-        }
         first.mend(rt)?;
         second.mend(rt)?;
         Ok(Tapes { first, second })

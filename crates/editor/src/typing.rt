@@ -49,7 +49,6 @@ fn read_given(heap: Global, console: &mut Console, text: &mut Vec<u8>) -> Result
     let mut line = Vec::new(heap);
     for _ in 0..u64::MAX {
         line.clear();
-        console.ask_given()?;
         if !console.read_line(&mut line)? || line.as_slice() == b".".as_slice() {
             break;
         }
