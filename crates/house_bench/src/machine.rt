@@ -3,7 +3,7 @@
 use crate::clock::{Kind, Times};
 use crate::fault::Fault;
 use crate::tape::{RECORD, Tapes};
-use house::Told;
+use core_house::Told;
 use std::alloc::Global;
 use std::time::Instant;
 
@@ -100,7 +100,7 @@ fn timed(
     bytes: &[u8],
 ) -> Result<Told, Fault> {
     let start = Instant::now(rt)?;
-    let told = house::step(memory, event as u64, bytes, row);
+    let told = core_house::step(memory, event as u64, bytes, row);
     let took = start.elapsed(rt)?;
     times.note(kind_of(told, row), took);
     Ok(told)
@@ -113,7 +113,7 @@ impl Machine {
             heap,
             room,
             memory: Vec::new(heap),
-            row: vec![in heap; 0; house::ROW]?,
+            row: vec![in heap; 0; core_house::ROW]?,
             tapes: Tapes::new(heap, room),
             active: 0,
             compacting: false,
@@ -148,7 +148,7 @@ impl Machine {
 
     /// Power comes, with nothing in memory.
     pub fn wake(&mut self, rt: &HostRuntime) -> Result<Cost, Fault> {
-        self.memory = vec![in self.heap; 0; house::MEMORY]?;
+        self.memory = vec![in self.heap; 0; core_house::MEMORY]?;
         self.compacting = false;
         let room = self.room.to_be_bytes();
         let outcome = self.tell(rt, Event::Power, &room)?;

@@ -1,11 +1,14 @@
 //! How many records the commands of the house read and put on, on two tapes in memory, and how long its steps take. The counts go to standard output;
 //! times vary, so they go to standard error.
 
+#![tactic(auto)]
+
 use cases::Text;
 use fault::Fault;
 use machine::Machine;
 use report::{Facts, Row};
 use std::env;
+use std::process::ExitCode;
 
 mod cases;
 mod clock;
@@ -77,10 +80,12 @@ fn run(rt: &HostRuntime) -> Result<(), Fault> {
     }
 }
 
-fn main(rt: HostRuntime) -> Result<(), Fault> {
-    let ended = run(&rt);
-    if let Err(fault) = &ended {
-        let _ = eprintln!(rt; "house_bench: {fault}");
+fn main(rt: HostRuntime) -> ExitCode {
+    match run(&rt) {
+        Ok(()) => ExitCode::SUCCESS,
+        Err(fault) => {
+            let _ = eprintln!(rt; "house_bench: {fault}");
+            ExitCode::FAILURE
+        }
     }
-    ended
 }

@@ -166,7 +166,7 @@ impl Reading {
 
     /// The next line of the day. False where it means nothing.
     fn take(&mut self, line: &[u8]) -> Result<bool, Fault> {
-        if self.is_open && line == b"." {
+        if self.is_open && line == b".".as_slice() {
             self.close()?;
         } else if self.is_open {
             self.give(line)?;

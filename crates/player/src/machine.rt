@@ -1,7 +1,7 @@
 //! The house as it runs beside its tapes, one act at a time.
 
 use crate::tape::Device;
-use house::Told;
+use core_house::Told;
 use std::alloc::{AllocError, Global};
 
 /// How many bytes a record has.
@@ -81,8 +81,8 @@ impl Machine {
     pub fn new(heap: Global) -> Result<Machine, AllocError> {
         Ok(Machine {
             heap,
-            memory: vec![in heap; 0; house::MEMORY]?,
-            row: vec![in heap; 0; house::ROW]?,
+            memory: vec![in heap; 0; core_house::MEMORY]?,
+            row: vec![in heap; 0; core_house::ROW]?,
             page: Vec::new(heap),
         })
     }
@@ -93,7 +93,7 @@ impl Machine {
     }
 
     fn step(&mut self, event: Event, bytes: &[u8]) -> Told {
-        house::step(
+        core_house::step(
             self.memory.as_mut_slice(),
             event as u64,
             bytes,
@@ -102,7 +102,7 @@ impl Machine {
     }
 
     fn step_record(&mut self) -> Told {
-        house::step(
+        core_house::step(
             self.memory.as_mut_slice(),
             Event::Record as u64,
             self.page.as_slice(),

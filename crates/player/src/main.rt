@@ -1,9 +1,12 @@
 //! Plays days on the house and on a plain house beside it, with power that stops.
 
+#![tactic(auto)]
+
 use day::Day;
 use fault::Fault;
 use stage::Counts;
 use std::alloc::Global;
+use std::process::ExitCode;
 use std::{env, fs};
 
 mod asker;
@@ -177,10 +180,12 @@ fn run(rt: &HostRuntime) -> Result<(), Fault> {
     }
 }
 
-fn main(rt: HostRuntime) -> Result<(), Fault> {
-    let ended = run(&rt);
-    if let Err(fault) = &ended {
-        let _ = eprintln!(rt; "player: {fault}");
+fn main(rt: HostRuntime) -> ExitCode {
+    match run(&rt) {
+        Ok(()) => ExitCode::SUCCESS,
+        Err(fault) => {
+            let _ = eprintln!(rt; "player: {fault}");
+            ExitCode::FAILURE
+        }
     }
-    ended
 }
