@@ -42,11 +42,14 @@ Beside (copy i j b) = Unit {0}
 Beside (commit c u) = beside c ≡ true
 Beside broken = Unit {0}
 
+checked_commit : (c : Splice) (u : News) (b : Bool) → beside c ≡ b → checked (commit c u) ≡ pick b (commit c u) broken
+checked_commit c u b e = ap (λ q. pick q (commit c u) broken) e
+
 checked_same : (r : Rec News) → Beside r → checked r ≡ r
 checked_same (head g n) b = refl
 checked_same (line j x) b = refl
 checked_same (copy i j x) b = refl
-checked_same (commit c u) b = ap (λ q. pick q (commit c u) broken) b
+checked_same (commit c u) b = checked_commit c u true b
 checked_same broken b = refl
 
 pub checked_back : (r : Rec News) → RecFits r → Beside r → checked_record_of (page_of r) ≡ r
@@ -59,10 +62,10 @@ pub read_checked : (p : Page) → Bytes p → (x : Rec News) → x ≡ record_of
 read_checked p f x e = ap checked e ∙ sym (checked_bytes p f)
 
 pub commit_kept : (x : Rec News) (c : Splice) (u : News) → x ≡ commit c u → beside c ≡ true → x ≡ checked x
-commit_kept x c u e b = e ∙ sym (ap checked e ∙ ap (λ q. pick q (commit c u) broken) b)
+commit_kept x c u e b = e ∙ sym (ap checked e ∙ checked_commit c u true b)
 
 pub commit_broken : (x : Rec News) (c : Splice) (u : News) → x ≡ commit c u → beside c ≡ false → broken ≡ checked x
-commit_broken x c u e b = sym (ap checked e ∙ ap (λ q. pick q (commit c u) broken) b)
+commit_broken x c u e b = sym (ap checked e ∙ checked_commit c u false b)
 
 pub others_kept : (r : Record) → ((s : code.Splice) (n : Numbers) (b : Bor (List ℕ)) → r ≡ Commit s n b → ⊥) → rec_of r ≡ checked (rec_of r)
 others_kept (Head g n) h = refl

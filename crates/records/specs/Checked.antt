@@ -17,6 +17,14 @@ checked broken = broken
 unfoldable pub checked_record_of : Page → Rec News
 checked_record_of p = pick (all_bytes p) (checked (record_of p)) broken
 
+-- the part of a line that a record holds, 0 where it holds none
+abbrev pub part_in : Rec News → ℕ
+part_in (head g n) = 0
+part_in (line j b) = j
+part_in (copy i j b) = j
+part_in (commit c u) = 0
+part_in broken = 0
+
 -- a commit with its numbers cut to 32 bits, as its page has them
 abbrev pub cut : ℕ → ℕ
 cut n = n % 4294967296

@@ -1,6 +1,6 @@
 //! Reading a page.
 ghost use Rattle.std.specs.Prelude.{◌≡◌, ℕ, ◌+◌, ◌<◌, ◌≤◌, true, length, slice_index};
-ghost use Rattle.records.specs.Checked.{checked_record_of};
+ghost use Rattle.records.specs.Checked.{checked_record_of, part_in};
 ghost use Rattle.records.specs.Pages.{also_in_page, beside as a_beside, four_at, name_in_page, news_in_page, piece_in_page, record_of, sealed, source_by, splice_in_page};
 ghost use Rattle.records.specs.Values.{also_of, news_of, piece_of, rec_of, source_of, splice_of};
 ghost use Rattle.journal.specs.Log.{commit as a_commit, piece_in};
@@ -156,8 +156,9 @@ pub fn decode_checked(page: &[u8]) -> Record<'_>
     }
 }
 
-/// The share of a line that a page holds, which is nothing where it holds no line.
+/// The share of a line that a page holds, and which part it is: nothing, as part 0, where it holds no line.
 pub fn piece_read(page: &[u8]) -> Piece<'_>
+    ensures part { result.part ≡ part_in (checked_record_of page.now) }
     ensures piece { piece_of result ≡ piece_in (checked_record_of page.now) }
     ensures short { length result.bytes.now ≤ 503 }
 {
