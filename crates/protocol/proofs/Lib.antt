@@ -1,3 +1,3 @@
 pub mod Eight
-pub mod Kinds
+pub mod Numbered
 pub mod Stepping
