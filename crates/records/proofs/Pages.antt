@@ -175,3 +175,13 @@ decoded_open p h = ap (λ b. pick b (by_kind (get_or p 0 0) p) broken) h
 pub decoded_other :
     (p : Page) → (get_or p 0 0 ≡ 1 → ⊥) → (get_or p 0 0 ≡ 2 → ⊥) → (get_or p 0 0 ≡ 3 → ⊥) → (get_or p 0 0 ≡ 4 → ⊥) → sealed p ≡ true → record_of p ≡ broken
 decoded_other p a b c d s = sealed_by p (eqb-true (get_or p 511 0) 1 s) ∙ rw (ne_eqb (get_or p 0 0) 1 a, ne_eqb (get_or p 0 0) 2 b, ne_eqb (get_or p 0 0) 3 c, ne_eqb (get_or p 0 0) 4 d) refl
+
+-- WHAT THE CODE DECODED, of a page that was seen to be sealed
+pub decoded_as : (q p : Page) (k : ℕ) → (q ≡ p) × (sealed p ≡ true) → get_or q 0 0 ≡ k → by_kind k q ≡ record_of p
+decoded_as q p k s e = ap (by_kind k) s.0 ∙ sym (decoded p k s.1 (sym (ap (λ z. get_or z 0 0) s.0) ∙ e))
+
+pub decoded_else :
+    (q p : Page) → (q ≡ p) × (sealed p ≡ true) → (get_or q 0 0 ≡ 1 → ⊥) → (get_or q 0 0 ≡ 2 → ⊥) → (get_or q 0 0 ≡ 3 → ⊥) → (get_or q 0 0 ≡ 4 → ⊥) → broken ≡ record_of p
+decoded_else q p s a b c d =
+    let e = ap (λ z. get_or z 0 0) s.0 in
+    sym (decoded_other p (λ h. a (e ∙ h)) (λ h. b (e ∙ h)) (λ h. c (e ∙ h)) (λ h. d (e ∙ h)) s.1)

@@ -1,5 +1,5 @@
 -- Bytes written over parts of a list, from its front on. Assumes nothing.
-use Rattle.std.proofs.Common.{◌≡◌, ℕ, suc, ◌+◌, ◌-◌, ◌*◌, ◌<◌, ◌≤◌, List, [], ◌∷◌, ◌++◌, map, length, get_or, take, drop, set, replicate, sym, refl, ap, ◌∙◌, append_assoc, append-nil, arith, length-append, length-drop}
+use Rattle.std.proofs.Common.{◌≡◌, ℕ, suc, ◌+◌, ◌-◌, ◌*◌, ◌<◌, ◌≤◌, List, [], ◌∷◌, ◌++◌, map, length, get_or, take, drop, set, replicate, sym, refl, ap, ◌∙◌, append_assoc, append-nil, map-id, arith, length-append, length-drop}
 use borrow.Rule.Slice.PartMut.{put_mid}
 use lib.ListN.{length-replicate, length-map}
 use Rattle.std.proofs.lemmas.List.{map_more, take_more, drop_more, set_at, take_all, drop_all, length-take-le, take_at, drop_at, drop-drop}
@@ -7,13 +7,14 @@ use Rattle.journal.specs.Log.{Piece, copy}
 use Rattle.records.specs.Pages.{two, four, fours, closed, recopied, page_of}
 
 -- cells, one after the other
-pub laid : (f : ℕ → ℕ) (cells out : List ℕ) (i : ℕ) → i < length cells → i < length out → set (map f (take i cells) ++ drop i out) i (f (get_or cells i 0)) ≡ map f (take (i + 1) cells) ++ drop (i + 1) out
-laid f cells out i h k =
-    let n : length (map f (take i cells)) ≡ i = length-map _ _ ∙ length-take-le i cells (omega arith) in
-    rw (drop_more out i 0, map_more f cells i 0, append_assoc) (set_at (map f (take i cells)) (get_or out i 0) (drop (i + 1) out) (f (get_or cells i 0)) i n)
+module _ {A : Type 0} (f : A → ℕ) (cells : List A) (out : List ℕ) (i : ℕ) where
+  pub laid : (x : A) → i < length cells → i < length out → set (map f (take i cells) ++ drop i out) i (f (get_or cells i x)) ≡ map f (take (i + 1) cells) ++ drop (i + 1) out
+  laid x h k =
+      let n : length (map f (take i cells)) ≡ i = length-map _ _ ∙ length-take-le i cells (omega arith) in
+      rw (drop_more out i 0, map_more f cells i x, append_assoc) (set_at (map f (take i cells)) (get_or out i 0) (drop (i + 1) out) (f (get_or cells i x)) i n)
 
-pub laid_all : (f : ℕ → ℕ) (cells out : List ℕ) (i : ℕ) → length cells ≤ i → length out ≡ length cells → map f (take i cells) ++ drop i out ≡ map f cells
-laid_all f cells out i h k = rw (take_all i cells h, drop_all i out (omega arith)) (append-nil (map f cells))
+  pub laid_all : length cells ≤ i → length out ≡ length cells → map f (take i cells) ++ drop i out ≡ map f cells
+  laid_all h k = rw (take_all i cells h, drop_all i out (omega arith)) (append-nil (map f cells))
 
 -- numbers, one after the other
 pub length-fours : (ns : List ℕ) → length (fours ns) ≡ 4 * length ns
@@ -84,11 +85,11 @@ recopied_written i p out a b e l h x y z =
 -- a copy of a piece that was read
 pub copy_written :
     (i j : ℕ) (q b : Piece) (out a f e : List ℕ) → q ≡ b → 512 ≤ length out → a ≡ 3 ∷ j ∷ two q.long → f ≡ four i →
-    e ≡ closed (length (take 504 (drop 8 (put_mid 4 4 (a ++ drop 4 out) f))) - 1) q.bytes →
+    e ≡ closed (length (take 504 (drop 8 (put_mid 4 4 (a ++ drop 4 out) f))) - 1) (map (λ b. b) q.bytes) →
     put_mid 8 504 (put_mid 4 4 (a ++ drop 4 out) f) e ≡ page_of (copy i j b) ++ drop 512 out
 unfolding page_of
 copy_written i j q b out a f e x h y z r =
     let l : length a ≡ 4 = ap length y in
     let mid = put_mid 4 4 (a ++ drop 4 out) f in
     let w : mid ≡ ((3 ∷ j ∷ two q.long) ++ four i) ++ drop 8 out = written_next 4 4 8 a f out l refl ∙ (λ k. (y k ++ z k) ++ drop 8 out) in
-    page-closed 8 503 ((3 ∷ j ∷ two q.long) ++ four i) q.bytes out mid e w refl refl h r ∙ ap (λ (t : Piece). (3 ∷ j ∷ two t.long ++ (four i ++ closed 503 t.bytes)) ++ drop 512 out) x
+    page-closed 8 503 ((3 ∷ j ∷ two q.long) ++ four i) q.bytes out mid e w refl refl h (r ∙ ap (λ t. closed (length (take 504 (drop 8 mid)) - 1) t) (map-id q.bytes)) ∙ ap (λ (t : Piece). (3 ∷ j ∷ two t.long ++ (four i ++ closed 503 t.bytes)) ++ drop 512 out) x

@@ -4,12 +4,14 @@
 
 ghost use Rattle.records.specs.Laws.{LinePacked, PageBack, RecopiedRight, TornBroken};
 
+mod page;
 mod reader;
 mod writer;
 
-pub use reader::{decode, decode_checked, piece_read};
+pub use reader::{decode, decode_checked, is_whole, piece_read};
 pub use writer::{
-    copy_line, encode_commit, encode_head, encode_line, line_to_copy, records_for, share_of,
+    LowByte, copy_line, encode_commit, encode_head, encode_line, lay, line_to_copy, records_for,
+    share_of,
 };
 
 /// How many bytes a page has.
@@ -98,23 +100,19 @@ pub enum Record<'a> {
 /// What was written is read back, and may be put on a tape.
 pub fn page_back()
     ensures { PageBack }
-{
-}
+{}
 
 /// A page of which only the first half was written is broken, and so is one that isn't there.
 pub fn torn_broken()
     ensures { TornBroken }
-{
-}
+{}
 
 /// The pieces of a line make the line again, are as many as `records_for` says, and fit their pages.
 pub fn line_packed()
     ensures { LinePacked }
-{
-}
+{}
 
 /// The page of a line, or of a copy, made into that of a copy for another index.
 pub fn recopied_right()
     ensures { RecopiedRight }
-{
-}
+{}

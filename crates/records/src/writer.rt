@@ -1,5 +1,5 @@
 //! Writing a page.
-ghost use Rattle.std.specs.Prelude.{◌≡◌, ℕ, ◌+◌, ◌-◌, ◌*◌, ◌<◌, ◌≤◌, List, [], ◌∷◌, ◌++◌, length, drop, slice_set};
+ghost use Rattle.std.specs.Prelude.{◌≡◌, ℕ, ◌+◌, ◌-◌, ◌*◌, ◌%◌, ◌<◌, ◌≤◌, List, [], ◌∷◌, ◌++◌, length, drop, map, slice_set};
 ghost use Rattle.journal.specs.Log.{commit as a_commit, copy as a_copy, head as a_head, line as a_line, piece as a_piece, piece_in};
 ghost use Rattle.records.specs.Lines.{records_for, share};
 ghost use Rattle.records.specs.Pages.{also_kind, also_number, closed, entry_in, fours, name_in, page_of, recopied, source_from, source_kind, source_to};
@@ -22,16 +22,41 @@ pub fn share_of(long: usize, part: usize) -> usize
     ensures { result ≡ share long part }
 {
     let left = long.saturating_sub(SHARE * part);
-    if left < SHARE { left } else { SHARE }
+    left.min(SHARE)
 }
 
-/// The low bytes of cells of memory over as many bytes.
-fn lay(out: &mut [u8], cells: &[u64])
+/// What a page takes a byte from: a byte, or a cell of memory, of which it is the lowest.
+pub trait LowByte: Copy {
+    ghost low: { Self → ℕ };
+
+    fn low(self) -> u8
+        ensures { result ≡ low self };
+}
+
+impl LowByte for u8 {
+    ghost low = { λ byte. byte };
+
+    fn low(self) -> u8 {
+        self
+    }
+}
+
+impl LowByte for u64 {
+    ghost low = { λ cell. cell % 256 };
+
+    fn low(self) -> u8 {
+        (self % 256) as u8
+    }
+}
+
+/// The low bytes of cells over as many bytes.
+pub fn lay<B: LowByte>(out: &mut [u8], cells: &[B])
     requires { length out.old ≡ length cells.now }
-    ensures { out.new ≡ low_bytes cells.now }
+    ensures { out.new ≡ map B.low cells.now }
 {
+    // An index, since the proof knows nothing of `out` after `iter_mut().zip(cells)`.
     for (i, cell) in cells.iter().enumerate() {
-        out[i] = (*cell % 256) as u8;
+        out[i] = cell.low();
     }
 }
 
@@ -45,24 +70,13 @@ fn seal(out: &mut [u8])
 }
 
 /// The end of a page: bytes, zeros behind them, and the seal.
-fn close(out: &mut [u8], cells: &[u64])
+fn close<B: LowByte>(out: &mut [u8], cells: &[B])
     requires { length cells.now < length out.old }
-    ensures { out.new ≡ closed (length out.old - 1) (low_bytes cells.now) }
+    ensures { out.new ≡ closed (length out.old - 1) (map B.low cells.now) }
 {
     let end = out.len() - 1;
     lay(&mut out[..cells.len()], cells);
     out[cells.len()..end].fill(0);
-    seal(out);
-}
-
-/// The same for bytes that were read.
-fn close_bytes(out: &mut [u8], bytes: &[u8])
-    requires { length bytes.now < length out.old }
-    ensures { out.new ≡ closed (length out.old - 1) bytes.now }
-{
-    let end = out.len() - 1;
-    out[..bytes.len()].copy_from_slice(bytes);
-    out[bytes.len()..end].fill(0);
     seal(out);
 }
 
@@ -71,6 +85,7 @@ fn put_numbers(out: &mut [u8], numbers: &[u32])
     requires { length out.old ≡ 4 * length numbers.now }
     ensures { out.new ≡ fours numbers.now }
 {
+    // An index, since the proof knows nothing of `out` after `chunks_exact_mut(4).zip(numbers)`.
     for (i, n) in numbers.iter().enumerate() {
         out[4 * i..4 * i + 4].copy_from_slice(&n.to_be_bytes());
     }
@@ -82,7 +97,7 @@ pub fn encode_head(out: &mut [u8], generation: u32, entries: u32)
 {
     out[0] = HEAD;
     put_numbers(&mut out[1..9], &[generation, entries]);
-    close(&mut out[9..PAGE], &[]);
+    close::<u8>(&mut out[9..PAGE], &[]);
 }
 
 /// A part of a line that is so long, whose bytes lie in cells of memory.
@@ -117,7 +132,7 @@ pub fn copy_line(read: &[u8], out: &mut [u8], index: u32, part: u8) -> u16
     let [high, low] = piece.long.to_be_bytes();
     out[0..4].copy_from_slice(&[COPY, part, high, low]);
     out[4..8].copy_from_slice(&index.to_be_bytes());
-    close_bytes(&mut out[8..PAGE], piece.bytes);
+    close(&mut out[8..PAGE], piece.bytes);
     piece.long
 }
 
