@@ -1,5 +1,5 @@
 -- Lists that are reversed and rotated in part.
-use Rattle.std.proofs.Common.{◌≡◌, ℕ, ◌+◌, ◌-◌, ◌<◌, ◌≤◌, ◌⊎◌, List, length, get_or, sym, ◌∙◌, arith, rules}
+use Rattle.std.proofs.Common.{◌≡◌, ℕ, ◌+◌, ◌-◌, ◌/◌, ◌<◌, ◌≤◌, ◌⊎◌, List, length, get_or, sym, ◌∙◌, arith, rules}
 use Rattle.lines.specs.Moves.{swapped, reversed, rotated}
 use Rattle.std.proofs.lemmas.List.{places, same_lists, get_or_default, get_or-set_same, get_or-set_other, length-set, length-reverse, length-append, length-take, length-drop}
 use Rattle.std.proofs.lemmas.Bool.{cases_eq}
@@ -52,6 +52,14 @@ reversed_step a b xs h g =
     same_lists _ _
     (length-reversed (a + 1) (b - 1) (swapped a (b - 1) xs) (omega arith) (omega arith) ∙ n ∙ sym (length-reversed a b xs (omega arith) g))
     (λ k d t. grind (arith, reversed-below, reversed-within, reversed-above, swapped_other, swapped_left, swapped_right, cases_eq k a, cases_eq k (b - 1)))
+
+-- the same, i places from both ends of a part
+pub reversed_inner : (lo hi i : ℕ) (xs : List ℕ) → i < (hi - lo) / 2 → hi ≤ length xs → reversed (lo + (i + 1)) (hi - (i + 1)) (swapped (lo + i) (hi - 1 - i) xs) ≡ reversed (lo + i) (hi - i) xs
+reversed_inner lo hi i xs h g =
+    let a : lo + (i + 1) ≡ lo + i + 1 = omega arith in
+    let b : hi - (i + 1) ≡ hi - i - 1 = omega arith in
+    let c : hi - 1 - i ≡ hi - i - 1 = omega arith in
+    rw (a, b, c) (reversed_step (lo + i) (hi - i) xs (omega arith) (omega arith))
 
 -- the rotation of a part, place by place, and by three reversals
 module _ (lo mid hi : ℕ) (xs : List ℕ) (low : lo ≤ mid) (mean : mid ≤ hi) (high : hi ≤ length xs) where

@@ -2,10 +2,12 @@
 //! three entries of 21 bits in each. Of `count` entries in use a splice or a copy says how many there are then; what stands behind those is free.
 #![tactic(auto)]
 
+mod cut;
 mod entries;
 mod find;
 mod moves;
 
+pub use cut::Cut;
 pub use entries::{get, len, set};
 pub use find::next_on;
-pub use moves::{copy, duplicate, fill, make_room, reverse, rotate, splice};
+pub use moves::{OutOfRange, copy, duplicate, fill, make_room, reverse, rotate, splice};
