@@ -1,6 +1,11 @@
 -- Laws of `lines_of`: a text's lines, walked from the front by offsets. Assumes nothing.
 use Rattle.std.proofs.Common.{◌≡◌, ℕ, zero, suc, ◌+◌, ◌-◌, ◌<◌, ◌≤◌, Bool, true, false, eqb, ltb, List, [], ◌∷◌, ◌++◌, length, get_or, take, drop, sym, refl, ap, ◌∙◌, subst, inl, inr, ⊎_elim, arith}
-use Rattle.std.proofs.lemmas.List.{append-nil, append_assoc, length-append, length-drop, drop_all, drop_more, take_more, take_all, get_or-drop}
+use Rattle.std.proofs.lemmas.List.{append-nil, append_assoc, length-append, length-drop, drop-drop, drop_all, drop_more, take_more, take_all, get_or-drop}
+use Rattle.std.proofs.lemmas.List.Quantifiers.{position-Some}
+use Rattle.std.proofs.lemmas.List.Sums.{fails_before_first, sum_by-cons}
+use Rattle.std.specs.List.{count_by, position, position_or_len}
+use Rattle.std.proofs.Common.{Some, None, cond, ltb-false}
+use Rattle.std.proofs.lemmas.Option.{none-some}
 use Rattle.std.proofs.lemmas.Bool.{true≢false, cases_Bool, eq-eqb, ne_eqb, eqb-true, and_parts, and_from}
 use Rattle.plain.specs.Pattern.{pick, or, every, any, added_up, all_bytes, part}
 use Rattle.plain.specs.Command.{lines_of}
@@ -96,6 +101,35 @@ next_line p q cs behind within none is = clear_to p q cs behind (omega arith) no
 pub last_line : (p : ℕ) (cs : List ℕ) → p ≤ length cs → Clear cs p (length cs) → lines_of [] (drop p cs) ≡ drop p cs ∷ []
 last_line p cs within none = clear_to p (length cs) cs within (omega arith) none ∙ walk_end p (length cs) cs (omega arith)
 
+-- the same by the place of the first newline
+pub split_at : (cs : List ℕ) (i : ℕ) → position (λ b. eqb b 10) cs ≡ Some i → take i cs ∷ lines_of [] (drop (i + 1) cs) ≡ lines_of [] cs
+split_at cs i e =
+    let p = position-Some (λ b. eqb b 10) cs i 0 e in
+    let n : i - 0 ≡ i = omega arith in
+    sym
+    (next_line 0 i cs (omega arith) p.0 (λ k a b h. true≢false (sym (eq-eqb (get_or cs k 0) 10 h) ∙ p.2 k b)) (eqb-true (get_or cs i 0) 10 p.1)
+    ∙ ap (λ j. take j cs ∷ lines_of [] (drop (i + 1) cs)) n)
+
+pub unsplit : (cs : List ℕ) → position (λ b. eqb b 10) cs ≡ None → cs ∷ [] ≡ lines_of [] cs
+unsplit cs e = by (ltb (position_or_len (λ b. eqb b 10) cs) (length cs)) refl e
+  where
+    by : (b : Bool) → ltb (position_or_len (λ b. eqb b 10) cs) (length cs) ≡ b → cond b (Some (position_or_len (λ b. eqb b 10) cs)) None ≡ None → cs ∷ [] ≡ lines_of [] cs
+    by true q r = absurd (none-some _ (sym r))
+    by false q r =
+        let far = ltb-false _ _ q in
+        sym (last_line 0 cs (omega arith) (λ k a b h. true≢false (sym (eq-eqb (get_or cs k 0) 10 h) ∙ fails_before_first (λ b. eqb b 10) cs k 0 (omega arith))))
+
+-- one line more than there are newlines
+pub lines_count : (l cs : List ℕ) → 1 + count_by (λ b. eqb b 10) cs ≡ length (lines_of l cs)
+unfolding lines_of
+lines_count l [] = refl
+lines_count l (c ∷ cs) = ap (λ n. 1 + n) (sum_by-cons (λ b. cond (eqb b 10) 1 0) c cs) ∙ by (lines_count [] cs) (lines_count (l ++ c ∷ []) cs) (eqb c 10)
+  where
+    by : 1 + count_by (λ x. eqb x 10) cs ≡ length (lines_of [] cs) → 1 + count_by (λ x. eqb x 10) cs ≡ length (lines_of (l ++ c ∷ []) cs) → (b : Bool) →
+        1 + (cond b 1 0 + count_by (λ x. eqb x 10) cs) ≡ length (pick b (l ∷ lines_of [] cs) (lines_of (l ++ c ∷ []) cs))
+    by h k true = omega arith
+    by h k false = omega arith
+
 -- there is always a line, and each but the last stands before a newline
 pub some_line : (l cs : List ℕ) → 1 ≤ length (lines_of l cs)
 unfolding lines_of
@@ -190,3 +224,10 @@ module _ (i : ℕ) (cs : List ℕ) (within : i < length cs) where
 
 pub count-end : (i : ℕ) (cs : List ℕ) → length cs ≤ i → length (lines_of [] (drop i cs)) ≡ 1
 count-end i cs past = ap (λ ds. length (lines_of [] ds)) (drop_all i cs past) ∙ ap length (at_end [])
+
+-- one item on in a list, and past its end
+pub on_by_one : {A : Type 0} (xs ys : List A) (y : A) (k : ℕ) → drop k xs ≡ y ∷ ys → drop (k + 1) xs ≡ ys
+on_by_one xs ys y k e = sym (drop-drop 1 k xs) ∙ ap (drop 1) e
+
+pub past_end : {A : Type 0} (xs : List A) (k n : ℕ) → k ≤ n → drop k xs ≡ [] → [] ≡ take 1 (drop n xs)
+past_end xs k n h e = let z : length xs - k ≡ 0 = sym (length-drop k xs) ∙ ap length e in sym (ap (take 1) (drop_all n xs (omega arith)))

@@ -1,5 +1,5 @@
 -- Which value of the formal `Command` each type of the reader stands for. Assumes nothing.
-use Rattle.std.specs.Prelude.{ℕ, List, []}
+use Rattle.std.specs.Prelude.{ℕ, List, [], None, Option, Some}
 use Rattle.std.specs.Borrow.{Bor}
 use Rattle.typed.specs.declared.addresses.Place.{Place}
 use Rattle.typed.specs.declared.addresses.Place.TheVariants.{Current, Last, Number, Mark, Next, Previous}
@@ -8,7 +8,6 @@ use Rattle.typed.specs.declared.addresses.Reach.{Reach}
 use Rattle.typed.specs.declared.addresses.Reach.TheVariants.{Unspecified, One, Two, FromFirst, All}
 use Rattle.typed.specs.declared.addresses.Range as typed_range
 use Rattle.typed.specs.declared.given.Lines.{Lines}
-use Rattle.typed.specs.declared.given.Lines.TheVariants.{Empty, Text}
 use Rattle.typed.specs.declared.deeds.Which.{Which}
 use Rattle.typed.specs.declared.deeds.Which.TheVariants as which
 use Rattle.typed.specs.declared.deeds.Deed.{Deed}
@@ -70,9 +69,12 @@ reach_of All = 4
 abbrev pub range_of : typed_range.Range → command.Range
 range_of r = record { kind = reach_of r.reach; first = address_of r.first; second = address_of r.second }
 
+abbrev pub text_lines : Option (Bor (List ℕ)) → List (List ℕ)
+text_lines None = []
+text_lines (Some t) = lines_of [] t.now
+
 abbrev pub lines_in : Lines → List (List ℕ)
-lines_in Empty = []
-lines_in (Text t) = lines_of [] t.now
+lines_in l = text_lines l.text
 
 abbrev pub which_number : Which → ℕ
 which_number which.All = 0

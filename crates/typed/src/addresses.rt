@@ -95,6 +95,7 @@ fn amount(cs: &[u8]) -> Option<(u64, &[u8])>
 pub(crate) fn up_to(delimiter: u8, cs: &[u8]) -> Option<(&[u8], &[u8])>
     ensures { answer bytes result ≡ up_to delimiter [] cs.now }
 {
+    // An index, since a backslash goes on two bytes, and what an iterator's closure remembers is lost to the proof.
     let mut i = 0;
     while i < cs.len() {
         if cs[i] == delimiter {
@@ -169,13 +170,13 @@ fn read_address(cs: &[u8]) -> Option<(Address<'_>, &[u8])>
 fn starts_address(cs: &[u8]) -> bool
     ensures { result ≡ starts_address cs.now }
 {
-    match cs {
+    matches!(
+        cs,
         [
             b'0'..=b'9' | b'.' | b'$' | b'\'' | b'/' | b'?' | b'+' | b'-',
             ..
-        ] => true,
-        _ => false,
-    }
+        ]
+    )
 }
 
 /// An address, or the current line where none is written.

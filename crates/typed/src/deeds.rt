@@ -152,9 +152,8 @@ pub(crate) fn read_deed(cs: &[u8]) -> Option<Deed<'_>>
 pub(crate) fn may_repeat(deed: &Deed<'_>) -> bool
     ensures { result ≡ for_many (deed_of deed.now) }
 {
-    match deed {
-        Deed::Undo | Deed::Redo | Deed::Write(_) | Deed::Edit(_) | Deed::Read(_) | Deed::Files =>
-            false,
-        _ => true,
-    }
+    !matches!(
+        deed,
+        Deed::Undo | Deed::Redo | Deed::Write(_) | Deed::Edit(_) | Deed::Read(_) | Deed::Files
+    )
 }

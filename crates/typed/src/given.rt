@@ -1,17 +1,15 @@
 //! Lines given behind a command.
-ghost use Rattle.std.specs.Prelude.{◌≡◌, ℕ, [], length, take, drop};
+ghost use Rattle.std.specs.Prelude.{◌≡◌, ℕ, [], length, take, drop, position, ◌==◌, ◌≤◌, count_by};
 ghost use Rattle.plain.specs.Command.{given, lines_of};
 ghost use Rattle.plain.specs.House.{short_all};
 ghost use Rattle.typed.specs.Meaning.{bytes, lines_in};
 ghost use Rattle.typed.specs.Answer.{whole, listed, parted};
 
-/// The lines given behind a command, as they were typed.
+/// The lines given behind a command, as they were typed: none, or lines with a newline between two of them, as many newlines and one line
+/// more.
 #[derive(Clone, Copy)]
-pub enum Lines<'a> {
-    /// No line was given.
-    Empty,
-    /// Lines with a newline between two of them: as many newlines, and one line more.
-    Text(&'a [u8]),
+pub struct Lines<'a> {
+    pub text: Option<&'a [u8]>,
 }
 
 /// The longest line that a text takes, in bytes.
@@ -22,27 +20,23 @@ impl<'a> Lines<'a> {
     pub fn split_first(self) -> Option<(&'a [u8], Lines<'a>)>
         ensures { parted result ≡ lines_in self.entry }
     {
-        let Lines::Text(text) = self else {
-            return None;
-        };
-        let mut i = 0;
-        while i < text.len() {
-            if text[i] == b'\n' {
-                return Some((&text[0..i], Lines::Text(&text[i + 1..])));
-            }
-            i += 1;
+        let text = self.text?;
+        match newline(text) {
+            Some(i) => Some((
+                &text[..i],
+                Lines {
+                    text: Some(&text[i + 1..]),
+                },
+            )),
+            None => Some((text, Lines { text: None })),
         }
-        Some((text, Lines::Empty))
     }
 
     /// How many lines there are.
     pub fn count(self) -> usize
         ensures { result ≡ length (lines_in self.entry) }
     {
-        match self {
-            Lines::Empty => 0,
-            Lines::Text(text) => lines_of(text),
-        }
+        self.text.map_or(0, |text| lines_of(text))
     }
 
     /// The line with `n` lines before it.
@@ -50,15 +44,12 @@ impl<'a> Lines<'a> {
         ensures { listed bytes result ≡ take 1 (drop n (lines_in self.entry)) }
     {
         let mut lines = self;
-        let mut before = n;
-        while let Some((line, rest)) = lines.split_first() {
-            if before == 0 {
-                return Some(line);
-            }
-            before -= 1;
+        for _ in 0..n {
+            let (_, rest) = lines.split_first()?;
             lines = rest;
         }
-        None
+        let (line, _) = lines.split_first()?;
+        Some(line)
     }
 
     /// Whether no line is longer than a text takes.
@@ -76,17 +67,26 @@ impl<'a> Lines<'a> {
     }
 }
 
-/// How many lines a text has: one more than it has newlines.
+/// The place of the first newline.
+fn newline(text: &[u8]) -> Option<usize>
+    ensures { result ≡ position (λ byte. byte == 10) text.now }
+{
+    text.iter().position(|byte| *byte == b'\n')
+}
+
+/// How many newlines a text has.
+fn newlines(text: &[u8]) -> usize
+    ensures { result ≡ count_by (λ byte. byte == 10) text.now }
+{
+    text.iter().filter(|byte| **byte == b'\n').count()
+}
+
+/// How many lines a text has.
+#[tactic(auto, using(crate::proofs::Texts::lines_count))]
 fn lines_of(text: &[u8]) -> usize
     ensures { result ≡ length (lines_of [] text.now) }
 {
-    let mut n = 1;
-    for b in text {
-        if *b == b'\n' {
-            n += 1;
-        }
-    }
-    n
+    1 + newlines(text)
 }
 
 /// What stands behind the letter of a command that takes lines.
@@ -94,8 +94,8 @@ pub(crate) fn given_lines(cs: &[u8]) -> Option<Lines<'_>>
     ensures { whole lines_in result ≡ given cs.now }
 {
     match cs {
-        [] => Some(Lines::Empty),
-        [b'\n', text @ ..] => Some(Lines::Text(text)),
+        [] => Some(Lines { text: None }),
+        [b'\n', text @ ..] => Some(Lines { text: Some(text) }),
         _ => None,
     }
 }
