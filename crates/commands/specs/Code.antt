@@ -3,7 +3,6 @@ use Rattle.std.specs.Prelude.{ℕ, suc, ◌<◌, ◌≤◌, Bool, true, false, l
 use Rattle.plain.specs.House.{short_all}
 use Rattle.typed.specs.declared.given.Lines.{Lines}
 use Rattle.typed.specs.Meaning.{lines_in}
-use Rattle.journal.specs.Log as log
 use Rattle.commands.specs.declared.refusal.Refusal.{Refusal}
 use Rattle.commands.specs.declared.refusal.Refusal.TheVariants.{Unreadable, Unknown, NoFile, NoLine, TooLarge, NoRoom}
 use Rattle.commands.specs.declared.bounds.Bounds as code_bounds
@@ -13,13 +12,11 @@ use Rattle.commands.specs.declared.plan.Update as code_update
 use Rattle.commands.specs.declared.plan.Update.TheVariants as updates
 use Rattle.commands.specs.declared.plan.Rows as code_rows
 use Rattle.commands.specs.declared.plan.Rows.TheVariants as rows
-use Rattle.commands.specs.declared.plan.Source as code_source
-use Rattle.commands.specs.declared.plan.Source.TheVariants as sources
-use Rattle.commands.specs.declared.plan.Splice as code_splice
 use Rattle.commands.specs.declared.plan.Span as code_span
 use Rattle.commands.specs.declared.plan.Sizes as code_sizes
 use Rattle.commands.specs.declared.plan.Slot as code_slot
 use Rattle.commands.specs.declared.plan.Plan as code_plan
+use Rattle.journal.specs.Values.{splice_of}
 use Rattle.commands.specs.Resolve as resolve
 use Rattle.commands.specs.Resolve.{Checked, good, refused}
 use Rattle.commands.specs.Plan as plan
@@ -63,14 +60,6 @@ rows_as rows.Nothing = plan.no_row
 rows_as (rows.Number n) = plan.a_number n
 rows_as rows.Files = plan.all_files
 
-abbrev pub source_as : code_source.Source → log.Source
-source_as sources.Nothing = log.no_entries
-source_as sources.Given = log.new_entries
-source_as (sources.Copied a b) = log.copied a b
-
-abbrev pub splice_as : code_splice.Splice → log.Splice
-splice_as s = log.splice s.from s.gone (source_as s.source)
-
 abbrev pub sizes_as : code_sizes.Sizes → plan.Sizes
 sizes_as s = plan.sizes s.count s.current s.offset
 
@@ -87,7 +76,7 @@ plan_as p =
       after = p.span.after;
       upto = p.span.upto;
       update = update_as p.update;
-      splice = splice_as p.splice;
+      splice = splice_of p.splice;
       came = p.came;
       count = p.count;
       current = p.current;

@@ -6,6 +6,7 @@ ghost use Rattle.commands.specs.Resolve.{good, then, check, base_plain, resolve_
 ghost use Rattle.commands.specs.Plan.{known};
 ghost use Rattle.commands.specs.Code.{checked_by, bounds_as};
 
+use crate::plan::Sizes;
 use crate::refusal::Refusal;
 use typed::{Address, Deed, Place, Range, Reach, Simple};
 
@@ -17,20 +18,20 @@ pub struct Bounds {
 }
 
 /// A line, before any step on or back.
-fn base(count: u64, current: u64, place: Place<'_>) -> Result<u64, Refusal>
-    ensures { checked_by itself result ≡ base_plain count current (at_place place.entry) }
+fn base(sizes: Sizes, place: Place<'_>) -> Result<u64, Refusal>
+    ensures { checked_by itself result ≡ base_plain sizes.count sizes.current (at_place place.entry) }
 {
     match place {
-        Place::Current => Ok(current),
-        Place::Last => Ok(count),
+        Place::Current => Ok(sizes.current),
+        Place::Last => Ok(sizes.count),
         Place::Number(n) => Ok(n),
         Place::Mark(_) | Place::Next(_) | Place::Previous(_) => Err(Refusal::Unknown),
     }
 }
 
 /// So many lines on and back, all added up before the line is looked at; 0 is before the first.
-fn step(count: u64, line: u64, on: u64, back: u64) -> Result<u64, Refusal>
-    ensures { checked_by itself result ≡ check (nat_le back (line + on) && nat_le (line + on - back) count) 4 (good (line + on - back)) }
+fn step(sizes: Sizes, line: u64, on: u64, back: u64) -> Result<u64, Refusal>
+    ensures { checked_by itself result ≡ check (nat_le back (line + on) && nat_le (line + on - back) sizes.count) 4 (good (line + on - back)) }
 {
     let stepped = if on >= back {
         line.checked_add(on - back)
@@ -40,18 +41,18 @@ fn step(count: u64, line: u64, on: u64, back: u64) -> Result<u64, Refusal>
     let Some(reached) = stepped else {
         return Err(Refusal::NoLine);
     };
-    if reached > count {
+    if reached > sizes.count {
         return Err(Refusal::NoLine);
     }
     Ok(reached)
 }
 
 /// The line of an address.
-fn resolve(count: u64, current: u64, address: Address<'_>) -> Result<u64, Refusal>
-    ensures { checked_by itself result ≡ resolve_plain count current (address_of address.entry) }
+fn resolve(sizes: Sizes, address: Address<'_>) -> Result<u64, Refusal>
+    ensures { checked_by itself result ≡ resolve_plain sizes.count sizes.current (address_of address.entry) }
 {
-    let line = base(count, current, address.place)?;
-    step(count, line, address.on, address.back)
+    let line = base(sizes, address.place)?;
+    step(sizes, line, address.on, address.back)
 }
 
 fn in_order(first: u64, last: u64) -> Result<Bounds, Refusal>
@@ -65,86 +66,80 @@ fn in_order(first: u64, last: u64) -> Result<Bounds, Refusal>
 }
 
 /// From a first line to the one of a second address.
-fn to_second(count: u64, current: u64, first: u64, second: Address<'_>) -> Result<Bounds, Refusal>
-    ensures { checked_by bounds_as result ≡ then (resolve_plain count current (address_of second.entry)) (λ m. in_order first m) }
+fn to_second(sizes: Sizes, first: u64, second: Address<'_>) -> Result<Bounds, Refusal>
+    ensures { checked_by bounds_as result ≡ then (resolve_plain sizes.count sizes.current (address_of second.entry)) (λ m. in_order first m) }
 {
-    let last = resolve(count, current, second)?;
+    let last = resolve(sizes, second)?;
     in_order(first, last)
 }
 
 /// The lines of a range, or those that are taken without one.
-fn range_bounds(
-    count: u64,
-    current: u64,
-    range: Range<'_>,
-    default: Bounds,
-) -> Result<Bounds, Refusal>
-    ensures { checked_by bounds_as result ≡ resolve_range count current (range_of range.entry) (bounds_as default) }
+fn range_bounds(sizes: Sizes, range: Range<'_>, default: Bounds) -> Result<Bounds, Refusal>
+    ensures { checked_by bounds_as result ≡ resolve_range sizes.count sizes.current (range_of range.entry) (bounds_as default) }
 {
     match range.reach {
         Reach::Unspecified => Ok(default),
         Reach::One => {
-            let line = resolve(count, current, range.first)?;
+            let line = resolve(sizes, range.first)?;
             Ok(Bounds {
                 first: line,
                 last: line,
             })
         }
         Reach::Two => {
-            let first = resolve(count, current, range.first)?;
-            to_second(count, current, first, range.second)
+            let first = resolve(sizes, range.first)?;
+            to_second(sizes, first, range.second)
         }
         Reach::FromFirst => {
-            let first = resolve(count, current, range.first)?;
-            to_second(count, first, first, range.second)
+            let first = resolve(sizes, range.first)?;
+            let then = Sizes {
+                current: first,
+                ..sizes
+            };
+            to_second(then, first, range.second)
         }
         Reach::All => Ok(Bounds {
             first: 1,
-            last: count,
+            last: sizes.count,
         }),
     }
 }
 
 /// The lines that a deed takes without a range.
-fn default_bounds(count: u64, current: u64, deed: Deed<'_>) -> Bounds
-    requires { current < 4294967296 }
-    ensures { bounds_as result ≡ default_bounds count current (deed_of deed.entry) }
+fn default_bounds(sizes: Sizes, deed: Deed<'_>) -> Bounds
+    requires { sizes.current < 4294967296 }
+    ensures { bounds_as result ≡ default_bounds sizes.count sizes.current (deed_of deed.entry) }
 {
     match deed {
         Deed::Join => Bounds {
-            first: current,
-            last: current + 1,
+            first: sizes.current,
+            last: sizes.current + 1,
         },
         Deed::LineNumber | Deed::Read(_) => Bounds {
-            first: count,
-            last: count,
+            first: sizes.count,
+            last: sizes.count,
         },
         Deed::GoTo => Bounds {
-            first: current + 1,
-            last: current + 1,
+            first: sizes.current + 1,
+            last: sizes.current + 1,
         },
         Deed::Write(_) => Bounds {
             first: 1,
-            last: count,
+            last: sizes.count,
         },
         _ => Bounds {
-            first: current,
-            last: current,
+            first: sizes.current,
+            last: sizes.current,
         },
     }
 }
 
 /// The lines that a command speaks of.
-pub fn command_bounds(count: u64, current: u64, simple: Simple<'_>) -> Result<Bounds, Refusal>
-    requires { current < 4294967296 }
-    ensures { checked_by bounds_as result ≡ command_bounds count current (simple_of simple.entry) }
+pub fn command_bounds(sizes: Sizes, simple: Simple<'_>) -> Result<Bounds, Refusal>
+    requires { sizes.current < 4294967296 }
+    ensures { checked_by bounds_as result ≡ command_bounds sizes.count sizes.current (simple_of simple.entry) }
 {
-    range_bounds(
-        count,
-        current,
-        simple.range,
-        default_bounds(count, current, simple.deed),
-    )
+    range_bounds(sizes, simple.range, default_bounds(sizes, simple.deed))
 }
 
 /// Whether an address is a number, the current line or the last one, or counted from these.

@@ -9,8 +9,9 @@ ghost use Rattle.commands.specs.Turn.{lines_given, given_of};
 ghost use Rattle.commands.specs.Code.{checked_by, when, bounds_as, walk_as, sizes_as, slot_as, given_in, plan_as, SizesFit, SlotFits, BoundsThere, RangeOrdered};
 
 use crate::bounds::{Bounds, command_bounds, known};
-use crate::plan::{Coming, Plan, Rows, Sizes, Slot, Source, Span, Walk, replace, save, say, show};
+use crate::plan::{Coming, Plan, Rows, Sizes, Slot, Span, Walk, replace, save, say, show};
 use crate::refusal::Refusal;
+use journal::Source;
 use typed::{Deed, Lines, Simple};
 
 /// How many files there can be.
@@ -21,18 +22,14 @@ fn short_lines(lines: Lines<'_>) -> Option<u64>
     requires { length (lines_in lines) < 4294967296 }
     ensures { result ≡ when (short_all (lines_in lines.entry)) (length (lines_in lines.entry)) }
 {
-    if lines.all_short() {
-        Some(lines.count() as u64)
-    } else {
-        None
-    }
+    lines.all_short().then_some(lines.count() as u64)
 }
 
 /// The line, if there is one, or 0 before the first.
 fn line_or_front(count: u64, line: u64) -> Option<u64>
     ensures { result ≡ when (nat_le line count) line }
 {
-    if line <= count { Some(line) } else { None }
+    (line <= count).then_some(line)
 }
 
 /// The lines, if they are there, and at least one.
@@ -55,11 +52,7 @@ fn after_gone(count: u64, bounds: Bounds) -> u64
     ensures { result ≡ at_gone count (bounds_as bounds) }
 {
     let left = count - (bounds.last - bounds.first + 1);
-    if bounds.first < left {
-        bounds.first
-    } else {
-        left
-    }
+    bounds.first.min(left)
 }
 
 fn append(sizes: Sizes, lines: Lines<'_>, bounds: Bounds) -> Result<Plan, Refusal>
@@ -78,7 +71,7 @@ fn append(sizes: Sizes, lines: Lines<'_>, bounds: Bounds) -> Result<Plan, Refusa
         upto: line,
     };
     let coming = Coming {
-        source: Source::Given,
+        source: Source::New,
         many,
     };
     Ok(replace(sizes, Walk::Skip, span, coming, line + many, Rows::Nothing))
@@ -96,13 +89,13 @@ fn insert(sizes: Sizes, lines: Lines<'_>, bounds: Bounds) -> Result<Plan, Refusa
     let Some(line) = line_or_front(sizes.count, bounds.last) else {
         return Err(Refusal::NoLine);
     };
-    let before = if line == 0 { 0 } else { line - 1 };
+    let before = line.saturating_sub(1);
     let span = Span {
         after: before,
         upto: before,
     };
     let coming = Coming {
-        source: Source::Given,
+        source: Source::New,
         many,
     };
     let current = if many == 0 { line } else { before + many };
@@ -121,7 +114,7 @@ fn change(sizes: Sizes, lines: Lines<'_>, bounds: Bounds) -> Result<Plan, Refusa
         return Err(Refusal::NoLine);
     };
     let coming = Coming {
-        source: Source::Given,
+        source: Source::New,
         many: new,
     };
     let current = match new {
@@ -154,7 +147,7 @@ fn join(sizes: Sizes, bounds: Bounds) -> Result<Plan, Refusal>
         return Err(Refusal::NoLine);
     };
     let coming = Coming {
-        source: Source::Given,
+        source: Source::New,
         many: 1,
     };
     Ok(replace(sizes, Walk::Join, span, coming, bounds.first, Rows::Nothing))
@@ -195,11 +188,7 @@ fn go_to(sizes: Sizes, bounds: Bounds) -> Result<Plan, Refusal>
 fn file_place(slot: Slot) -> Option<Slot>
     ensures { result ≡ when (or slot.found (nat_lt slot.place 64)) slot }
 {
-    if slot.found || slot.place < FILES {
-        Some(slot)
-    } else {
-        None
-    }
+    (slot.found || slot.place < FILES).then_some(slot)
 }
 
 /// The lines, if they can be written: they are there, or the text is empty.
@@ -207,11 +196,7 @@ fn writable_lines(count: u64, bounds: Bounds) -> Option<Span>
     ensures { result ≡ when (writable count (bounds_as bounds)) (record { after = bounds.first - 1; upto = bounds.last }) }
 {
     if count == 0 && bounds.last == 0 {
-        let after = if bounds.first == 0 {
-            0
-        } else {
-            bounds.first - 1
-        };
+        let after = bounds.first.saturating_sub(1);
         return Some(Span { after, upto: 0 });
     }
     real_lines(count, bounds)
@@ -293,7 +278,7 @@ pub fn plan_command(sizes: Sizes, slot: Slot, simple: Simple<'_>) -> Result<Plan
     if !known(simple) {
         return Err(Refusal::Unknown);
     }
-    let range = command_bounds(sizes.count, sizes.current, simple);
+    let range = command_bounds(sizes, simple);
     match simple.deed {
         Deed::Write(_) => write(sizes, slot, range),
         Deed::Edit(_) => edit(sizes, slot),

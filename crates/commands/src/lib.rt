@@ -11,10 +11,11 @@ mod weights;
 
 pub use bounds::{Bounds, command_bounds, known};
 pub use decide::plan_command;
+pub use journal::{Source, Splice};
 pub use laws::{
     begins_alike, plans_stand, reads_few, reads_well, smalls_weigh, totals_stand, turns_alike,
     turns_allowed, typed_allowed, weighs_alike,
 };
-pub use plan::{Plan, Rows, Sizes, Slot, Source, Span, Splice, Update, Walk};
+pub use plan::{Plan, Rows, Sizes, Slot, Span, Update, Walk};
 pub use refusal::Refusal;
 pub use weights::{file_total, no_room, stand_size, text_total};

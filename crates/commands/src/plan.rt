@@ -1,7 +1,10 @@
 //! What is done for a command: which lines are walked over, what becomes of the directory, what is shown.
 ghost use Rattle.std.specs.Prelude.{◌≡◌, ℕ, ◌<◌};
 ghost use Rattle.commands.specs.Plan.{text_plan, show_plan, say_plan, file_plan};
-ghost use Rattle.commands.specs.Code.{walk_as, rows_as, source_as, sizes_as, slot_as, plan_as, SizesFit, SpanFits};
+ghost use Rattle.commands.specs.Code.{walk_as, rows_as, sizes_as, slot_as, plan_as, SizesFit, SpanFits};
+ghost use Rattle.journal.specs.Values.{source_of};
+
+use journal::{Source, Splice};
 
 /// What is done with each line that is walked over.
 #[derive(Clone, Copy)]
@@ -36,24 +39,6 @@ pub enum Rows {
     Files,
 }
 
-/// Where the entries are from that come into the directory.
-#[derive(Clone, Copy)]
-pub enum Source {
-    Nothing,
-    /// Lines that are put on for this command.
-    Given,
-    /// Once more the entries from one index up to another.
-    Copied { from: u64, to: u64 },
-}
-
-/// What becomes of the directory: in place of `gone` entries from `from` on come those of the source.
-#[derive(Clone, Copy)]
-pub struct Splice {
-    pub from: u64,
-    pub gone: u64,
-    pub source: Source,
-}
-
 /// Lines of the text: those after one, up to another.
 #[derive(Clone, Copy)]
 pub struct Span {
@@ -64,7 +49,7 @@ pub struct Span {
 /// Entries that come, and how many.
 #[derive(Clone, Copy)]
 pub(crate) struct Coming {
-    pub(crate) source: Source,
+    pub(crate) source: Source<u64>,
     pub(crate) many: u64,
 }
 
@@ -75,7 +60,7 @@ pub struct Plan {
     /// The lines that are walked over.
     pub span: Span,
     pub update: Update,
-    pub splice: Splice,
+    pub splice: Splice<u64>,
     /// How many entries come.
     pub came: u64,
     /// How many lines the text has then.
@@ -104,7 +89,7 @@ pub struct Slot {
     pub size: u64,
 }
 
-const NO_SPLICE: Splice = Splice {
+const NO_SPLICE: Splice<u64> = Splice {
     from: 0,
     gone: 0,
     source: Source::Nothing,
@@ -122,7 +107,7 @@ pub(crate) fn replace(
     requires sizes_fit { SizesFit sizes }
     requires span_fits { SpanFits sizes.count span }
     requires many_bound { coming.many < 4294967296 }
-    ensures { plan_as result ≡ text_plan (sizes_as sizes) (walk_as walk) span.after span.upto (source_as coming.source) coming.many current (rows_as rows) }
+    ensures { plan_as result ≡ text_plan (sizes_as sizes) (walk_as walk) span.after span.upto (source_of coming.source) coming.many current (rows_as rows) }
 {
     let gone = span.upto - span.after;
     Plan {

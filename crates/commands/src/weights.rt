@@ -1,5 +1,6 @@
 //! What is to be kept after a command, by weight.
 ghost use Rattle.std.specs.Prelude.{◌≡◌, ℕ, ◌+◌, ◌-◌, ◌*◌, ◌<◌, ◌≤◌};
+ghost use Rattle.std.specs.Int.{from_bool};
 ghost use Rattle.commands.specs.Kept.{moved_on, stand_size};
 ghost use Rattle.commands.specs.Smalls.{text_total, file_total};
 ghost use Rattle.commands.specs.Turn.{too_heavy};
@@ -13,15 +14,11 @@ const BREAK: u64 = 64;
 /// What a file weighs by itself.
 const FILE: u64 = 128;
 
-/// 1 if a line stands behind those that went, and another line before it than there was.
-fn moved_on(count: u64, span: Span, came: u64) -> u64
-    ensures { result ≡ moved_on count span.after span.upto came }
+/// Whether a line stands behind those that went, and another line before it than there was.
+fn moves_on(count: u64, span: Span, came: u64) -> bool
+    ensures { from_bool result ≡ moved_on count span.after span.upto came }
 {
-    if span.upto < count && (span.after < span.upto || came > 0) {
-        1
-    } else {
-        0
-    }
+    span.upto < count && (span.after < span.upto || came > 0)
 }
 
 /// What the stand weighs that can be taken back, after lines that weigh `went` were replaced by `came` others in a text of `count` lines.
@@ -32,7 +29,7 @@ pub fn stand_size(count: u64, span: Span, went: u64, came: u64) -> u64
     requires went_bound { went < 1099511627776 }
     ensures { result ≡ stand_size count span.after span.upto went came }
 {
-    STAND + went + BREAK * (span.upto.saturating_sub(span.after) + moved_on(count, span, came))
+    STAND + went + BREAK * (span.upto.saturating_sub(span.after) + u64::from(moves_on(count, span, came)))
 }
 
 /// The weight of all that is kept after lines of the text were replaced, and what was before them in the ring dropped.

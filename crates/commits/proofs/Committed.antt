@@ -3,7 +3,8 @@ use Rattle.std.proofs.Common.{◌≡◌, ℕ, Bool, true, false, List, ◌++◌,
 use Rattle.plain.specs.Pattern.{pick}
 use Rattle.journal.specs.Small.{News}
 use Rattle.records.specs.Pages.{page_of}
-use Rattle.commands.specs.Code.{when, splice_as}
+use Rattle.commands.specs.Code.{when}
+use Rattle.journal.specs.Values.{splice_of}
 use Rattle.engine.specs.Machine as machine
 use Rattle.memory.specs.declared.phase.Phase.TheVariants.{CommitPut}
 use Rattle.memory.specs.declared.tapes.Tapes.{Tapes}
@@ -28,16 +29,16 @@ module _ (r : Registers) (m out out₁ : List ℕ) (tape : ℕ) (t : Tapes) (to 
   put_first e =
       record {
         registers = ap (λ x. in_phase CommitPut (with_tapes x r)) longer ∙ ap (λ b. in_phase CommitPut (pick b (committed r m) (with_tapes (target_longer r) r))) e;
-        memory = ap (λ b. pick b (applied_by r.kept (splice_as r.job.plan.splice) (news_in r m) m) m) e;
+        memory = ap (λ b. pick b (applied_by r.kept (splice_of r.job.plan.splice) (news_in r m) m) m) e;
         act = (ap Append to, page);
       }
 
   pub put_last : true ≡ last_target r → (cursor : ℕ) (k : Kept) (m₁ : List ℕ) (u : News) → cursor ≡ cursor_then r → u ≡ news_in r m
-      → k ≡ kept_by r.kept (splice_as r.job.plan.splice) u → m₁ ≡ applied_by r.kept (splice_as r.job.plan.splice) u m
+      → k ≡ kept_by r.kept (splice_of r.job.plan.splice) u → m₁ ≡ applied_by r.kept (splice_of r.job.plan.splice) u m
       → Says (put_commit r m) (in_phase CommitPut (with_kept k (with_tapes (with_cursor cursor t) r))) m₁ (Append tape) out out₁
   unfolding put_commit ActTold
   put_last e cursor k m₁ u place said kept applied =
-      let s = splice_as r.job.plan.splice in
+      let s = splice_of r.job.plan.splice in
       let k₁ : k ≡ kept_by r.kept s (news_in r m) = kept ∙ ap (kept_by r.kept s) said in
       record {
         registers = (λ i. in_phase CommitPut (with_kept (k₁ i) (with_tapes (with_cursor (place i) (longer i)) r)))

@@ -5,8 +5,8 @@ use Rattle.commands.specs.declared.plan.Update.{Update}
 use Rattle.commands.specs.declared.plan.Update.TheVariants as update
 use Rattle.commands.specs.declared.plan.Rows.{Rows}
 use Rattle.commands.specs.declared.plan.Rows.TheVariants as rows
-use Rattle.commands.specs.declared.plan.Source.{Source}
-use Rattle.commands.specs.declared.plan.Source.TheVariants as source
+use Rattle.journal.specs.declared.commit.Source.{Source}
+use Rattle.journal.specs.declared.commit.Source.TheVariants as source
 use Rattle.memory.specs.declared.tapes.Tapes.{Tapes}
 use Rattle.memory.specs.declared.carrying.Carrying.{Carrying}
 use Rattle.memory.specs.declared.registers.Registers.{Registers}
@@ -45,7 +45,7 @@ WideRows rows.Files = Unit {0}
 
 abbrev pub WideSource : Source → Type 0
 WideSource source.Nothing = Unit {0}
-WideSource source.Given = Unit {0}
+WideSource source.New = Unit {0}
 WideSource (source.Copied a b) = Wide a × Wide b
 
 pub record WidePlan (p : Plan) : Type 0 where

@@ -6,7 +6,7 @@ use Rattle.plain.specs.Device.{lesser}
 use Rattle.plain.specs.Run.{put_on, fasten}
 use Rattle.journal.specs.Log.{line}
 use Rattle.records.specs.Pages.{page_of}
-use Rattle.commands.specs.Code.{splice_as}
+use Rattle.journal.specs.Values.{splice_of}
 use Rattle.engine.specs.Packing.{records_of, piece_of}
 use Rattle.engine.specs.Machine as machine
 use Rattle.memory.specs.declared.phase.Phase.TheVariants.{LinePut, CommitPut, CommitFast}
@@ -42,12 +42,12 @@ cursor_then r = machine.cursor_after r.tapes.cursor r.job.plan.splice.from r.job
 
 abbrev pub committed : Registers → List ℕ → Registers
 committed r m =
-    with_kept (kept_by r.kept (splice_as r.job.plan.splice) (news_in r m)) (with_tapes (with_cursor (cursor_then r) (target_longer r)) r)
+    with_kept (kept_by r.kept (splice_of r.job.plan.splice) (news_in r m)) (with_tapes (with_cursor (cursor_then r) (target_longer r)) r)
 
 unfoldable pub put_commit : Registers → List ℕ → Made
 put_commit r m =
     made (in_phase CommitPut (pick (last_target r) (committed r m) (with_tapes (target_longer r) r)))
-    (pick (last_target r) (applied_by r.kept (splice_as r.job.plan.splice) (news_in r m) m) m)
+    (pick (last_target r) (applied_by r.kept (splice_of r.job.plan.splice) (news_in r m) m) m)
     (put_on (target r) (page_of (machine.commit_of (house_of r m))))
 
 -- A LINE: where the first one that is left begins and ends, and its bytes

@@ -1,12 +1,11 @@
 //! Putting on a commit.
 
 ghost use Rattle.std.specs.Prelude.{◌≡◌, ◌+◌, ◌≤◌, ◌++◌, length, drop};
-ghost use Rattle.commands.specs.Code.{splice_as};
+ghost use Rattle.journal.specs.Values.{splice_of, news_of};
 ghost use Rattle.journal.specs.Log.{commit as a_commit};
 ghost use Rattle.memory.specs.Abstract.{name_of};
 ghost use Rattle.records.specs.Pages.{page_of};
 ghost use Rattle.records.specs.Checked.{cut_splice};
-ghost use Rattle.records.specs.Values.{news_of};
 ghost use Rattle.commits.specs.Acts.{Says};
 ghost use Rattle.commits.specs.Bounds.{Loose};
 ghost use Rattle.commits.specs.News.{kept_by, applied_by};
@@ -39,7 +38,7 @@ fn cursor_then(registers: &Registers) -> u64
 /// The page of the commit over the front of `out`.
 fn put_page(registers: &Registers, memory: &[u64], numbers: Numbers, out: &mut [u8])
     requires { (length memory.now ≡ 262144) × ((131072 ≤ length out.old) × (Loose registers.now)) }
-    ensures { out.new ≡ page_of (a_commit (cut_splice (splice_as registers.now.job.plan.splice)) (news_of numbers (name_of registers.now.job.name memory.now))) ++ drop 512 out.old }
+    ensures { out.new ≡ page_of (a_commit (cut_splice (splice_of registers.now.job.plan.splice)) (news_of numbers (name_of registers.now.job.name memory.now))) ++ drop 512 out.old }
 {
     let splice = splice(registers.job.plan.splice);
     let name = memory::kept_name(memory, registers.job.name);
@@ -49,8 +48,8 @@ fn put_page(registers: &Registers, memory: &[u64], numbers: Numbers, out: &mut [
 /// Applies the commit in memory, with a row for the name of a file, and says what is kept then.
 fn apply_named(memory: &mut [u64], kept: Kept, job: Job, numbers: Numbers, name: &mut [u8]) -> Kept
     requires { (length memory.old ≡ 262144) × ((length name.old ≡ 64) × ((kept.entries ≤ 524289) × (job.name ≤ 64))) }
-    ensures kept { result ≡ kept_by kept (splice_as job.plan.splice) (news_of numbers (name_of job.name memory.old)) }
-    ensures memory { memory.new ≡ applied_by kept (splice_as job.plan.splice) (news_of numbers (name_of job.name memory.old)) memory.old }
+    ensures kept { result ≡ kept_by kept (splice_of job.plan.splice) (news_of numbers (name_of job.name memory.old)) }
+    ensures memory { memory.new ≡ applied_by kept (splice_of job.plan.splice) (news_of numbers (name_of job.name memory.old)) memory.old }
 {
     let name = &mut name[..job.name as usize];
     memory::copy_low(memory::kept_name(memory, job.name), name);
@@ -61,8 +60,8 @@ fn apply_named(memory: &mut [u64], kept: Kept, job: Job, numbers: Numbers, name:
 /// Applies the commit in memory, and says what is kept then.
 fn apply(memory: &mut [u64], kept: Kept, job: Job, numbers: Numbers) -> Kept
     requires { (length memory.old ≡ 262144) × ((kept.entries ≤ 524289) × (job.name ≤ 64)) }
-    ensures kept { result ≡ kept_by kept (splice_as job.plan.splice) (news_of numbers (name_of job.name memory.old)) }
-    ensures memory { memory.new ≡ applied_by kept (splice_as job.plan.splice) (news_of numbers (name_of job.name memory.old)) memory.old }
+    ensures kept { result ≡ kept_by kept (splice_of job.plan.splice) (news_of numbers (name_of job.name memory.old)) }
+    ensures memory { memory.new ≡ applied_by kept (splice_of job.plan.splice) (news_of numbers (name_of job.name memory.old)) memory.old }
 {
     apply_named(memory, kept, job, numbers, &mut [0u8; NAMES])
 }

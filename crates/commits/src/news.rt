@@ -1,14 +1,14 @@
 //! What a commit says: its splice of the directory, and the small state that it sets.
 
 ghost use Rattle.std.specs.Prelude.{◌≡◌, ℕ, ◌<◌, ◌≤◌, List, length};
-ghost use Rattle.commands.specs.Code.{source_as, splice_as, update_as};
+ghost use Rattle.commands.specs.Code.{update_as};
+ghost use Rattle.journal.specs.Values.{source_of, splice_of, also_of, news_of};
 ghost use Rattle.engine.specs.Machine.{came_weight, copied_weight, news_of as news_then};
 ghost use Rattle.memory.specs.Abstract.{house_of, job_lines, name_of, text_of};
 ghost use Rattle.journal.specs.Small.{news, nothing_else};
-ghost use Rattle.records.specs.Values.{also_of, news_of, source_of, splice_of};
 ghost use Rattle.commits.specs.Bounds.{Loose, Wide};
 ghost use Rattle.records.specs.Checked.{cut, cut_also, cut_news, cut_source, cut_splice};
-ghost use Rattle.commits.specs.News.{also_as, clamped, news_as, within as inside};
+ghost use Rattle.commits.specs.News.{clamped, within as inside};
 
 use commands::{Source, Splice, Update, stand_size};
 use memory::{Kept, Registers};
@@ -49,20 +49,20 @@ fn copied_weight(update: Update, went: u64, size: u64) -> u64
 /// What the lines weigh that come.
 fn came_weight(registers: &Registers, memory: &[u64]) -> u64
     requires { (length memory.now ≡ 262144) × (Loose registers.now) }
-    ensures weight { result ≡ came_weight (source_as registers.now.job.plan.splice.source) (update_as registers.now.job.plan.update) (job_lines registers.now.job.lines (text_of registers.now.job.text memory.now)) registers.now.walking.went registers.now.job.size }
+    ensures weight { result ≡ came_weight (source_of registers.now.job.plan.splice.source) (update_as registers.now.job.plan.update) (job_lines registers.now.job.lines (text_of registers.now.job.text memory.now)) registers.now.walking.went registers.now.job.size }
     ensures wide { Wide result }
 {
     let job = registers.job;
     match job.plan.splice.source {
         Source::Nothing => 0,
-        Source::Given => memory::lines_weight(memory, job.lines, job.text),
+        Source::New => memory::lines_weight(memory, job.lines, job.text),
         Source::Copied { .. } => copied_weight(job.plan.update, registers.walking.went, job.size),
     }
 }
 
 /// The small state with the same text, and a current line.
 fn same_text(kept: Kept, current: u64) -> News
-    ensures { (name : List ℕ) → news_as result name ≡ news kept.count current kept.weight nothing_else }
+    ensures { (name : List ℕ) → news_of result name ≡ news kept.count current kept.weight nothing_else }
 {
     News {
         count: kept.count,
@@ -75,7 +75,7 @@ fn same_text(kept: Kept, current: u64) -> News
 /// The small state after a command.
 pub fn news_of(registers: &Registers, memory: &[u64]) -> News
     requires { (length memory.now ≡ 262144) × (Loose registers.now) }
-    ensures { news_as result (name_of registers.now.job.name memory.now) ≡ news_then (house_of registers.now memory.now) }
+    ensures { news_of result (name_of registers.now.job.name memory.now) ≡ news_then (house_of registers.now memory.now) }
 {
     let kept = registers.kept;
     let plan = registers.job.plan;
@@ -111,7 +111,7 @@ fn low(n: u64) -> u32
 }
 
 fn cut_also(also: Also) -> records::Also
-    ensures { (name : List ℕ) → also_of result name ≡ cut_also (also_as also name) }
+    ensures { (name : List ℕ) → also_of result name ≡ cut_also (also_of also name) }
 {
     match also {
         Also::Nothing => records::Also::Nothing,
@@ -130,7 +130,7 @@ fn cut_also(also: Also) -> records::Also
 
 /// The numbers as a page has them.
 pub fn numbers(news: News) -> records::Numbers
-    ensures { (name : List ℕ) → news_of result name ≡ cut_news (news_as news name) }
+    ensures { (name : List ℕ) → news_of result name ≡ cut_news (news_of news name) }
 {
     records::Numbers {
         count: low(news.count),
@@ -141,11 +141,11 @@ pub fn numbers(news: News) -> records::Numbers
 }
 
 fn cut_source(source: Source) -> records::Source
-    ensures { source_of result ≡ cut_source (source_as source) }
+    ensures { source_of result ≡ cut_source (source_of source) }
 {
     match source {
         Source::Nothing => records::Source::Nothing,
-        Source::Given => records::Source::New,
+        Source::New => records::Source::New,
         Source::Copied { from, to } => records::Source::Copied {
             from: low(from),
             to: low(to),
@@ -155,7 +155,7 @@ fn cut_source(source: Source) -> records::Source
 
 /// The splice as a page has it.
 pub fn splice(splice: Splice) -> records::Splice
-    ensures { splice_of result ≡ cut_splice (splice_as splice) }
+    ensures { splice_of result ≡ cut_splice (splice_of splice) }
 {
     records::Splice {
         from: low(splice.from),
@@ -167,11 +167,11 @@ pub fn splice(splice: Splice) -> records::Splice
 /// What of the source is in a directory of so many entries.
 fn within(source: Source, entries: u64) -> records::Source
     requires { entries ≤ 524289 }
-    ensures { source_of result ≡ inside entries (source_as source) }
+    ensures { source_of result ≡ inside entries (source_of source) }
 {
     match source {
         Source::Nothing => records::Source::Nothing,
-        Source::Given => records::Source::New,
+        Source::New => records::Source::New,
         Source::Copied { from, to } => {
             let to = to.min(entries);
             if from >= to {
@@ -188,7 +188,7 @@ fn within(source: Source, entries: u64) -> records::Source
 /// The splice inside a directory of so many entries, which does the same.
 pub fn clamp(splice: Splice, entries: u64) -> records::Splice
     requires { entries ≤ 524289 }
-    ensures { splice_of result ≡ clamped entries (splice_as splice) }
+    ensures { splice_of result ≡ clamped entries (splice_of splice) }
 {
     let from = splice.from.min(entries);
     let gone = splice.gone.min(entries - from);

@@ -6,10 +6,11 @@ use Rattle.journal.specs.Log.{head, copy, commit, piece_in, Splice}
 use Rattle.journal.specs.Small.{News}
 use Rattle.records.specs.Pages.{page_of, four, entry_in, name_in, closed}
 use Rattle.records.specs.Checked.{checked_record_of}
-use Rattle.records.specs.declared.Also.{Also}
-use Rattle.records.specs.declared.Also.TheVariants as also
-use Rattle.records.specs.declared.Numbers.{Numbers}
-use Rattle.records.specs.Values.{also_of, low_bytes, news_of}
+use Rattle.journal.specs.declared.commit.Also.{Also}
+use Rattle.journal.specs.declared.commit.Also.TheVariants as also
+use Rattle.journal.specs.declared.commit.Numbers.{Numbers}
+use Rattle.records.specs.Values.{low_bytes}
+use Rattle.journal.specs.Values.{also_of, news_of}
 use Rattle.records.proofs.Digits.{length-closed, four_cut}
 use Rattle.records.proofs.Read.{piece-short}
 use Rattle.compaction.specs.Laid.{laid}

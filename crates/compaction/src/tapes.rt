@@ -4,7 +4,8 @@ ghost use Rattle.std.specs.Prelude.{◌≡◌, ℕ, ◌+◌, ◌<◌, ◌≤◌,
 ghost use Rattle.journal.specs.Log.{set_up, next_generation};
 ghost use Rattle.journal.specs.Small.{news, set_up_of};
 ghost use Rattle.records.specs.Pages.{page_of};
-ghost use Rattle.records.specs.Values.{also_of, low_bytes, news_of};
+ghost use Rattle.records.specs.Values.{low_bytes};
+ghost use Rattle.journal.specs.Values.{also_of, news_of};
 ghost use Rattle.engine.specs.Machine.{no_news};
 ghost use Rattle.memory.specs.Abstract.{small_of};
 ghost use Rattle.memory.specs.Registers.{TameKept, Tame};

@@ -1,12 +1,13 @@
 -- Registers of a state that fits are loaded as they were stored. Assumes nothing.
 use Rattle.std.proofs.Common.{ℕ, List, arith}
-use Rattle.commands.specs.Code.{update_as, rows_as, source_as}
+use Rattle.commands.specs.Code.{update_as, rows_as}
+use Rattle.journal.specs.Values.{source_of}
 use Rattle.commands.specs.declared.plan.Update.{Update}
 use Rattle.commands.specs.declared.plan.Update.TheVariants as update
 use Rattle.commands.specs.declared.plan.Rows.{Rows}
 use Rattle.commands.specs.declared.plan.Rows.TheVariants as rows
-use Rattle.commands.specs.declared.plan.Source.{Source}
-use Rattle.commands.specs.declared.plan.Source.TheVariants as source
+use Rattle.journal.specs.declared.commit.Source.{Source}
+use Rattle.journal.specs.declared.commit.Source.TheVariants as source
 use Rattle.engine.specs.Fits.{Fits, UpdateFits, RowsFit, SourceFits}
 use Rattle.memory.specs.declared.registers.Registers.{Registers}
 use Rattle.memory.specs.Registers.{Tame, TameUpdate, TameRows, TameSource, loaded}
@@ -25,9 +26,9 @@ rows_tame rows.Nothing f = tt
 rows_tame (rows.Number n) f = f
 rows_tame rows.Files f = tt
 
-source_tame : (s : Source) → SourceFits (source_as s) → TameSource s
+source_tame : (s : Source) → SourceFits (source_of s) → TameSource s
 source_tame source.Nothing f = tt
-source_tame source.Given f = tt
+source_tame source.New f = tt
 source_tame (source.Copied a b) f = f
 
 pub tame_of : (r : Registers) (m : List ℕ) → Bounded r → Fits (house_of r m) → Tame r

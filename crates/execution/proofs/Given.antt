@@ -8,7 +8,8 @@ use Rattle.typed.specs.declared.given.Lines as typed_lines
 use Rattle.typed.specs.declared.deeds.Deed.{Deed}
 use Rattle.typed.specs.declared.deeds.Deed.TheVariants as deed
 use Rattle.typed.specs.Meaning.{lines_in, deed_of}
-use Rattle.commands.specs.Code.{walk_as, update_as, rows_as, source_as, plan_as}
+use Rattle.commands.specs.Code.{walk_as, update_as, rows_as, plan_as}
+use Rattle.journal.specs.Values.{source_of}
 use Rattle.commands.specs.Turn.{lines_given, name_given}
 use Rattle.commands.specs.declared.plan.Walk.{Walk}
 use Rattle.commands.specs.declared.plan.Walk.TheVariants as walk
@@ -16,8 +17,8 @@ use Rattle.commands.specs.declared.plan.Update.{Update}
 use Rattle.commands.specs.declared.plan.Update.TheVariants as update
 use Rattle.commands.specs.declared.plan.Rows.{Rows}
 use Rattle.commands.specs.declared.plan.Rows.TheVariants as rows
-use Rattle.commands.specs.declared.plan.Source.{Source}
-use Rattle.commands.specs.declared.plan.Source.TheVariants as source
+use Rattle.journal.specs.declared.commit.Source.{Source}
+use Rattle.journal.specs.declared.commit.Source.TheVariants as source
 use Rattle.commands.specs.declared.plan.Plan.{Plan}
 use Rattle.memory.specs.declared.job.Lines.TheVariants.{Nothing, Given}
 use Rattle.execution.specs.Plans.{walk_code, update_code, rows_code, source_code, plan_code, with_newlines, lines_kind}
@@ -118,9 +119,9 @@ rows_back rows.Nothing = refl
 rows_back (rows.Number n) = refl
 rows_back rows.Files = refl
 
-source-back : (s : Source) → source_code (source_as s) ≡ s
+source-back : (s : Source) → source_code (source_of s) ≡ s
 source-back source.Nothing = refl
-source-back source.Given = refl
+source-back source.New = refl
 source-back (source.Copied a b) = refl
 
 pub plan-back : (p : Plan) → plan_code (plan_as p) ≡ p

@@ -7,8 +7,8 @@ use Rattle.commands.specs.declared.plan.Update.{Update}
 use Rattle.commands.specs.declared.plan.Update.TheVariants as update
 use Rattle.commands.specs.declared.plan.Rows.{Rows}
 use Rattle.commands.specs.declared.plan.Rows.TheVariants as rows
-use Rattle.commands.specs.declared.plan.Source.{Source}
-use Rattle.commands.specs.declared.plan.Source.TheVariants as source
+use Rattle.journal.specs.declared.commit.Source.{Source}
+use Rattle.journal.specs.declared.commit.Source.TheVariants as source
 use Rattle.memory.specs.declared.job.Job.{Job}
 use Rattle.memory.specs.declared.walking.Walking.{Walking}
 use Rattle.memory.specs.declared.walking.Putting.{Putting}
@@ -31,7 +31,7 @@ wide_rows rows.Files h = tt
 
 wide_source : (u : Source) → TameSource u → WideSource u
 wide_source source.Nothing h = tt
-wide_source source.Given h = tt
+wide_source source.New h = tt
 wide_source (source.Copied a b) h = (omega (arith, h.0), omega (arith, h.1))
 
 wide : (n : ℕ) → n < 4294967296 → Wide n

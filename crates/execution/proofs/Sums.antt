@@ -13,9 +13,9 @@ use Rattle.memory.specs.Abstract.{file_at, file_head, files_of}
 use Rattle.memory.specs.declared.small.File.{File}
 use Rattle.memory.proofs.Filing.{file_there, name-long, length-files}
 use Rattle.memory.proofs.Parted.{length_part}
-use Rattle.commits.specs.declared.news.Also.{Also}
-use Rattle.commits.specs.declared.news.Also.TheVariants.{Push, Store}
-use Rattle.commits.specs.News.{also_as}
+use Rattle.journal.specs.declared.commit.Also.{Also}
+use Rattle.journal.specs.declared.commit.Also.TheVariants.{Push, Store}
+use Rattle.journal.specs.Values.{also_of}
 use Rattle.execution.specs.Room.{Light, AlsoLight}
 
 -- THE RING
@@ -39,12 +39,12 @@ oldest_less r =
 
 -- what a push makes of the sum
 pub ring-then : (also : Also) (pushed w old : ℕ) (r : List ℕ) → also ≡ Push pushed → w ≡ sum r → old ≡ oldest r
-    → (name : List ℕ) → w - old + pushed ≡ sum (ring_by (also_as also name) r)
+    → (name : List ℕ) → w - old + pushed ≡ sum (ring_by (also_of also name) r)
 ring-then also p w old r e ew eo name =
     let a = sum-pushed r p in
     let b = oldest_less r in
-    let q : w - old + p ≡ sum (ring_by (also_as (Push p) name) r) = omega (arith, a, b, ew, eo) in
-    q ∙ ap (λ x. sum (ring_by (also_as x name) r)) (sym e)
+    let q : w - old + p ≡ sum (ring_by (also_of (Push p) name) r) = omega (arith, a, b, ew, eo) in
+    q ∙ ap (λ x. sum (ring_by (also_of x name) r)) (sym e)
 
 pub push_light : (also : Also) (pushed : ℕ) → also ≡ Push pushed → AlsoLight also → Light pushed
 push_light also p e l = subst AlsoLight e l
@@ -66,12 +66,12 @@ slot_less f (suc i) (x ∷ es) = let r = slot_less f i es in omega arith
 -- what a file in its place makes of the sum
 pub files-then : (also : Also) (slot lines size w old name : ℕ) (es : List Entry) → also ≡ Store slot lines size → w ≡ added_up entry_size es
     → old ≡ added_up entry_size (take 1 (drop slot es)) → (bs : List ℕ) → length bs ≡ name
-    → w - old + (128 + name + size) ≡ added_up entry_size (files_by (also_as also bs) es)
+    → w - old + (128 + name + size) ≡ added_up entry_size (files_by (also_of also bs) es)
 files-then also slot lines size w old name es e ew eo bs n =
     let a = slot-sum entry_size slot es (record { name = bs; lines = lines; size = size }) in
     let b = slot_less entry_size slot es in
-    let q : w - old + (128 + name + size) ≡ added_up entry_size (files_by (also_as (Store slot lines size) bs) es) = omega (arith, a, b, ew, eo, n) in
-    q ∙ ap (λ x. added_up entry_size (files_by (also_as x bs) es)) (sym e)
+    let q : w - old + (128 + name + size) ≡ added_up entry_size (files_by (also_of (Store slot lines size) bs) es) = omega (arith, a, b, ew, eo, n) in
+    q ∙ ap (λ x. added_up entry_size (files_by (also_of x bs) es)) (sym e)
 
 pub store_light : (also : Also) (slot lines size : ℕ) → also ≡ Store slot lines size → AlsoLight also → Light size
 store_light also slot lines size e l = subst AlsoLight e l

@@ -9,8 +9,8 @@ use Rattle.commands.specs.declared.plan.Update.{Update}
 use Rattle.commands.specs.declared.plan.Update.TheVariants as update
 use Rattle.commands.specs.declared.plan.Rows.{Rows}
 use Rattle.commands.specs.declared.plan.Rows.TheVariants as rows
-use Rattle.commands.specs.declared.plan.Source.{Source}
-use Rattle.commands.specs.declared.plan.Source.TheVariants as source
+use Rattle.journal.specs.declared.commit.Source.{Source}
+use Rattle.journal.specs.declared.commit.Source.TheVariants as source
 use Rattle.commands.specs.declared.plan.Plan.{Plan}
 use Rattle.memory.specs.declared.job.Lines.{Lines}
 use Rattle.memory.specs.declared.job.Lines.TheVariants as lines
@@ -35,7 +35,7 @@ rows_code plan.all_files = rows.Files
 
 abbrev pub source_code : log.Source → Source
 source_code log.no_entries = source.Nothing
-source_code log.new_entries = source.Given
+source_code log.new_entries = source.New
 source_code (log.copied a b) = source.Copied a b
 
 -- the plan of the code for one of the definitions

@@ -1,8 +1,8 @@
 -- What is added up to see whether there is room. Assumes nothing: these are definitions.
 use Rattle.std.specs.Prelude.{ℕ, ◌<◌}
-use Rattle.commits.specs.declared.news.News.{News}
-use Rattle.commits.specs.declared.news.Also.{Also}
-use Rattle.commits.specs.declared.news.Also.TheVariants.{Nothing, Push, Store}
+use Rattle.journal.specs.declared.commit.Numbers.{Numbers}
+use Rattle.journal.specs.declared.commit.Also.{Also}
+use Rattle.journal.specs.declared.commit.Also.TheVariants.{Nothing, Push, Store}
 
 -- NUMBERS OF 50 BITS, so that no sum of a few is too large
 abbrev pub Light : ℕ → Type 0

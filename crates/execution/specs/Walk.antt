@@ -4,7 +4,8 @@ use Rattle.plain.specs.Pattern.{pick, eight}
 use Rattle.plain.specs.Device.{Page}
 use Rattle.plain.specs.Run.{read, shows}
 use Rattle.journal.specs.Log.{Piece}
-use Rattle.commands.specs.Code.{walk_as, source_as}
+use Rattle.commands.specs.Code.{walk_as}
+use Rattle.journal.specs.Values.{source_of}
 use Rattle.commands.specs.declared.plan.Walk.{Walk}
 use Rattle.commands.specs.declared.plan.Walk.TheVariants.{Skip, Show, ShowNumbered, Measure, Join}
 use Rattle.engine.specs.Packing.{records_of, lines_records}
@@ -30,7 +31,7 @@ abbrev pub job_size : Registers → ℕ
 job_size r = suc ((r.job.plan.span.upto - r.job.plan.span.after) + r.job.plan.came)
 
 abbrev pub quota_of : Registers → ℕ
-quota_of r = quota_by (source_as r.job.plan.splice.source) (job_size r)
+quota_of r = quota_by (source_of r.job.plan.splice.source) (job_size r)
 
 abbrev pub with_quota : ℕ → Bool → Registers → Registers
 with_quota q w r = with_carrying (carrying 0 0 0 0 q w) r

@@ -10,7 +10,7 @@ ghost use Rattle.memory.specs.Abstract.{ring_of, files_of, small_of, house_of};
 ghost use Rattle.memory.specs.Registers.{TameKept};
 ghost use Rattle.commits.specs.Acts.{Says};
 ghost use Rattle.commits.specs.Bounds.{Loose};
-ghost use Rattle.commits.specs.News.{also_as, news_as};
+ghost use Rattle.journal.specs.Values.{also_of, news_of};
 ghost use Rattle.commits.specs.Setters.{carrying as carries};
 ghost use Rattle.execution.specs.Room.{AlsoLight, NewsLight};
 ghost use Rattle.execution.specs.Walk.{need as needed, job_size as sized, quota_of as quotas, prepare as prepares, weigh as weighs};
@@ -52,7 +52,7 @@ fn quota(registers: &Registers) -> u64
     ensures { result ≡ quotas registers.now }
 {
     match registers.job.plan.splice.source {
-        Source::Nothing | Source::Given => CARRIED * job_size(registers),
+        Source::Nothing | Source::New => CARRIED * job_size(registers),
         Source::Copied { .. } => NO_LIMIT,
     }
 }
@@ -60,7 +60,7 @@ fn quota(registers: &Registers) -> u64
 /// What all stands weigh after a commit.
 fn ring_after(memory: &[u64], ring: u64, also: Also) -> u64
     requires { (length memory.now ≡ 262144) × ((ring ≤ 64) × (AlsoLight also)) }
-    ensures total { (name : List ℕ) → result ≡ summed (ring_by (also_as also name) (ring_of ring memory.now)) }
+    ensures total { (name : List ℕ) → result ≡ summed (ring_by (also_of also name) (ring_of ring memory.now)) }
     ensures few { result ≤ 1126174784749568 }
 {
     let weight = memory::ring_weight(memory, ring);
@@ -85,7 +85,7 @@ fn weight_at(memory: &[u64], files: u64, slot: u64) -> u64
 /// What all files weigh after a commit, by the length of the name that the command has.
 fn files_after(memory: &[u64], files: u64, also: Also, name: u64) -> u64
     requires { (length memory.now ≡ 262144) × ((files ≤ 64) × ((AlsoLight also) × (name ≤ 64))) }
-    ensures total { (bs : List ℕ) → length bs ≡ name → result ≡ added_up entry_size (files_by (also_as also bs) (files_of files memory.now)) }
+    ensures total { (bs : List ℕ) → length bs ≡ name → result ≡ added_up entry_size (files_by (also_of also bs) (files_of files memory.now)) }
     ensures few { result ≤ 1126174784764928 }
 {
     let weight = memory::file_weight(memory, files);
@@ -102,7 +102,7 @@ fn files_after(memory: &[u64], files: u64, also: Also, name: u64) -> u64
 /// What all that is kept weighs after a commit.
 fn weight_after(memory: &[u64], kept: Kept, news: News, name: u64) -> u64
     requires { (length memory.now ≡ 262144) × ((TameKept kept) × ((NewsLight news) × (name ≤ 64))) }
-    ensures { (bs : List ℕ) → length bs ≡ name → result ≡ smalls_weight (updated (news_as news bs) (small_of kept memory.now)) }
+    ensures { (bs : List ℕ) → length bs ≡ name → result ≡ smalls_weight (updated (news_of news bs) (small_of kept memory.now)) }
 {
     news.weight
         + ring_after(memory, kept.ring, news.also)

@@ -1,5 +1,6 @@
 pub mod Machine
 pub mod Log
+pub mod Values
 pub mod Tapes
 pub mod Small
 pub mod Room

@@ -7,6 +7,10 @@ ghost use Rattle.journal.specs.Log.{choose, next_generation};
 ghost use Rattle.journal.specs.Tapes.{which_of};
 ghost use Rattle.journal.specs.Laws.{ApplyNatural, CommitAllAtOnce, CompactionKeepsLines, NoFullTape, StopKeepsState, TornTailUnseen, WithinGrant};
 
+mod commit;
+
+pub use commit::{Also, Numbers, Source, Splice};
+
 /// The generation after which 1 comes again.
 const LAST_GENERATION: u32 = 3;
 
@@ -44,41 +48,34 @@ pub fn counting(first: u32, second: u32) -> Option<Tape>
 /// A splice of the directory does the same to positions and to the lines that lie there.
 pub fn apply_natural()
     ensures { ApplyNatural }
-{
-}
+{}
 
 /// Replay sees neither lines that no commit follows, nor a torn record and what stands behind it.
 pub fn torn_tail_unseen()
     ensures { TornTailUnseen }
-{
-}
+{}
 
 /// A commit record changes the directory and the small state at once; a stop before it leaves both as they were.
 pub fn commit_all_at_once()
     ensures { CommitAllAtOnce }
-{
-}
+{}
 
 /// A stop at any moment of a command leaves on the tape that counts the state before the command, or the one after it.
 pub fn stop_keeps_state()
     ensures { StopKeepsState }
-{
-}
+{}
 
 /// When no entry of the directory lies on the old tape any more, the new one alone has the same lines and the same small state.
 pub fn compaction_keeps_lines()
     ensures { CompactionKeepsLines }
-{
-}
+{}
 
 /// Neither tape gets full before all has been carried.
 pub fn no_full_tape()
     ensures { NoFullTape }
-{
-}
+{}
 
 /// A command that carries entries to the other tape stays within the records that are granted to it.
 pub fn within_grant()
     ensures { WithinGrant }
-{
-}
+{}

@@ -11,8 +11,8 @@ use Rattle.commands.specs.declared.plan.Update.{Update}
 use Rattle.commands.specs.declared.plan.Update.TheVariants as update
 use Rattle.commands.specs.declared.plan.Rows.{Rows}
 use Rattle.commands.specs.declared.plan.Rows.TheVariants as rows
-use Rattle.commands.specs.declared.plan.Source.{Source}
-use Rattle.commands.specs.declared.plan.Source.TheVariants as source
+use Rattle.journal.specs.declared.commit.Source.{Source}
+use Rattle.journal.specs.declared.commit.Source.TheVariants as source
 use Rattle.memory.specs.declared.phase.Phase.{Phase}
 use Rattle.memory.specs.declared.phase.Phase.TheVariants.{Idle, WakeFirst, WakeSecond, Replaying, FreshBegun, FreshHead, FreshFast, CompactBegun, SettingUp, CarryRead, CarryPut, CompactFast, Switched, Fetching, RowShown, LinePut, CommitPut, CommitFast, CountShown, FileShown}
 use Rattle.memory.specs.declared.job.Lines.{Lines}
@@ -136,7 +136,7 @@ rows-small rows.Files = omega arith
 
 source-small : (s : Source) → (source_kind s < 4294967296) × (source_from s < 4294967296) × (source_to s < 4294967296)
 source-small source.Nothing = omega arith
-source-small source.Given = omega arith
+source-small source.New = omega arith
 source-small (source.Copied a b) = omega arith
 
 lines-small : (l : Lines) → lines_number l < 4294967296

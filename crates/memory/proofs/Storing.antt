@@ -9,8 +9,8 @@ use Rattle.commands.specs.declared.plan.Update.{Update}
 use Rattle.commands.specs.declared.plan.Update.TheVariants as update
 use Rattle.commands.specs.declared.plan.Rows.{Rows}
 use Rattle.commands.specs.declared.plan.Rows.TheVariants as rows
-use Rattle.commands.specs.declared.plan.Source.{Source}
-use Rattle.commands.specs.declared.plan.Source.TheVariants as source
+use Rattle.journal.specs.declared.commit.Source.{Source}
+use Rattle.journal.specs.declared.commit.Source.TheVariants as source
 use Rattle.memory.specs.declared.phase.Phase.{Phase}
 use Rattle.memory.specs.declared.phase.Phase.TheVariants.{Idle, WakeFirst, WakeSecond, Replaying, FreshBegun, FreshHead, FreshFast, CompactBegun, SettingUp, CarryRead, CarryPut, CompactFast, Switched, Fetching, RowShown, LinePut, CommitPut, CommitFast, CountShown, FileShown}
 use Rattle.memory.specs.declared.job.Lines.{Lines}
@@ -22,7 +22,7 @@ use Rattle.memory.specs.declared.walking.Walking.{Walking}
 use Rattle.memory.specs.declared.walking.Putting.{Putting}
 use Rattle.memory.specs.declared.carrying.Carrying.{Carrying}
 use Rattle.memory.specs.declared.registers.Registers.{Registers}
-use Rattle.memory.specs.Numbers.{capped, flag, phases, phase_of, phase_number, walk_of, walk_number, update_of, update_kind, update_place, rows_of, rows_kind, rows_value, source_of, source_kind, source_from, source_to, lines_of, lines_number}
+use Rattle.memory.specs.Numbers.{capped, flag, phases, phase_of, phase_number, walk_of, walk_number, update_of, update_kind, update_place, rows_of, rows_kind, rows_value, source_by, source_kind, source_from, source_to, lines_of, lines_number}
 use Rattle.memory.specs.Registers.{part, with_part, tapes_in, kept_in, plan_in, job_in, walking_in, putting_in, carrying_in, loaded, tapes_numbers, kept_numbers, plan_numbers, job_numbers, walking_numbers, putting_numbers, carrying_numbers, numbers, stored, TameTapes, TameKept, TameUpdate, TameRows, TameSource, TamePlan, TameJob, TameWalking, TamePutting, TameCarrying, Tame}
 
 -- numbers past the last phase
@@ -102,9 +102,9 @@ rows_back rows.Nothing t = refl
 rows_back (rows.Number n) t = ap rows.Number (twice n t)
 rows_back rows.Files t = refl
 
-source-back : (s : Source) → TameSource s → source_of (source_kind s) (source_from s) (source_to s) ≡ s
+source-back : (s : Source) → TameSource s → source_by (source_kind s) (source_from s) (source_to s) ≡ s
 source-back source.Nothing t = refl
-source-back source.Given t = refl
+source-back source.New t = refl
 source-back (source.Copied a b) t = λ i. source.Copied (twice a t.0 i) (twice b t.1 i)
 
 lines-back : (l : Lines) → lines_of (lines_number l) ≡ l
@@ -217,8 +217,8 @@ tame_update k n =
 tame_rows : (k n : ℕ) → TameRows (rows_of k n)
 tame_rows k n = by_test TameRows (eqb k 1) (rows.Number (capped n)) _ (omega arith) (by_test TameRows (eqb k 2) rows.Files rows.Nothing tt tt)
 
-tame_source : (k a b : ℕ) → TameSource (source_of k a b)
-tame_source k a b = by_test TameSource (eqb k 1) source.Given _ tt (by_test TameSource (eqb k 2) (source.Copied (capped a) (capped b)) source.Nothing (omega arith, omega arith) tt)
+tame_source : (k a b : ℕ) → TameSource (source_by k a b)
+tame_source k a b = by_test TameSource (eqb k 1) source.New _ tt (by_test TameSource (eqb k 2) (source.Copied (capped a) (capped b)) source.Nothing (omega arith, omega arith) tt)
 
 tame_plan : (s : List ℕ) → TamePlan (plan_in s)
 tame_plan s = record {

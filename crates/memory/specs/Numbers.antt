@@ -7,8 +7,8 @@ use Rattle.commands.specs.declared.plan.Update.{Update}
 use Rattle.commands.specs.declared.plan.Update.TheVariants as update
 use Rattle.commands.specs.declared.plan.Rows.{Rows}
 use Rattle.commands.specs.declared.plan.Rows.TheVariants as rows
-use Rattle.commands.specs.declared.plan.Source.{Source}
-use Rattle.commands.specs.declared.plan.Source.TheVariants as source
+use Rattle.journal.specs.declared.commit.Source.{Source}
+use Rattle.journal.specs.declared.commit.Source.TheVariants as source
 use Rattle.memory.specs.declared.phase.Phase.{Phase}
 use Rattle.memory.specs.declared.phase.Phase.TheVariants.{Idle, WakeFirst, WakeSecond, Replaying, FreshBegun, FreshHead, FreshFast, CompactBegun, SettingUp, CarryRead, CarryPut, CompactFast, Switched, Fetching, RowShown, LinePut, CommitPut, CommitFast, CountShown, FileShown}
 use Rattle.memory.specs.declared.job.Lines.{Lines}
@@ -90,22 +90,22 @@ rows_value rows.Nothing = 0
 rows_value (rows.Number n) = capped n
 rows_value rows.Files = 0
 
-abbrev pub source_of : ℕ → ℕ → ℕ → Source
-source_of kind a b = pick (kind == 1) source.Given (pick (kind == 2) (source.Copied (capped a) (capped b)) source.Nothing)
+abbrev pub source_by : ℕ → ℕ → ℕ → Source
+source_by kind a b = pick (kind == 1) source.New (pick (kind == 2) (source.Copied (capped a) (capped b)) source.Nothing)
 
 abbrev pub source_kind : Source → ℕ
 source_kind source.Nothing = 0
-source_kind source.Given = 1
+source_kind source.New = 1
 source_kind (source.Copied a b) = 2
 
 abbrev pub source_from : Source → ℕ
 source_from source.Nothing = 0
-source_from source.Given = 0
+source_from source.New = 0
 source_from (source.Copied a b) = capped a
 
 abbrev pub source_to : Source → ℕ
 source_to source.Nothing = 0
-source_to source.Given = 0
+source_to source.New = 0
 source_to (source.Copied a b) = capped b
 
 -- WHAT OF THE TEXT IS PUT ON

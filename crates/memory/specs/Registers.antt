@@ -5,8 +5,8 @@ use Rattle.commands.specs.declared.plan.Update.{Update}
 use Rattle.commands.specs.declared.plan.Update.TheVariants as update
 use Rattle.commands.specs.declared.plan.Rows.{Rows}
 use Rattle.commands.specs.declared.plan.Rows.TheVariants as rows
-use Rattle.commands.specs.declared.plan.Source.{Source}
-use Rattle.commands.specs.declared.plan.Source.TheVariants as source
+use Rattle.journal.specs.declared.commit.Source.{Source}
+use Rattle.journal.specs.declared.commit.Source.TheVariants as source
 use Rattle.memory.specs.declared.tapes.Tapes.{Tapes}
 use Rattle.memory.specs.declared.kept.Kept.{Kept}
 use Rattle.memory.specs.declared.job.Job.{Job}
@@ -14,7 +14,7 @@ use Rattle.memory.specs.declared.walking.Walking.{Walking}
 use Rattle.memory.specs.declared.walking.Putting.{Putting}
 use Rattle.memory.specs.declared.carrying.Carrying.{Carrying}
 use Rattle.memory.specs.declared.registers.Registers.{Registers}
-use Rattle.memory.specs.Numbers.{capped, flag, phase_of, phase_number, walk_of, walk_number, update_of, update_kind, update_place, rows_of, rows_kind, rows_value, source_of, source_kind, source_from, source_to, lines_of, lines_number}
+use Rattle.memory.specs.Numbers.{capped, flag, phase_of, phase_number, walk_of, walk_number, update_of, update_kind, update_place, rows_of, rows_kind, rows_value, source_by, source_kind, source_from, source_to, lines_of, lines_number}
 
 -- a part of a list, and the list with another in its place
 abbrev pub part : ℕ → ℕ → List ℕ → List ℕ
@@ -54,7 +54,7 @@ plan_in s =
       walk = walk_of (slice_index s 0);
       span = record { after = capped (slice_index s 1); upto = capped (slice_index s 2) };
       update = update_of (slice_index s 3) (slice_index s 4);
-      splice = record { from = capped (slice_index s 5); gone = capped (slice_index s 6); source = source_of (slice_index s 7) (slice_index s 8) (slice_index s 9) };
+      splice = record { from = capped (slice_index s 5); gone = capped (slice_index s 6); source = source_by (slice_index s 7) (slice_index s 8) (slice_index s 9) };
       came = capped (slice_index s 10);
       count = capped (slice_index s 11);
       current = capped (slice_index s 12);
@@ -164,7 +164,7 @@ TameRows rows.Files = Unit {0}
 
 abbrev pub TameSource : Source → Type 0
 TameSource source.Nothing = Unit {0}
-TameSource source.Given = Unit {0}
+TameSource source.New = Unit {0}
 TameSource (source.Copied a b) = Word a × Word b
 
 pub record TamePlan (p : Plan) : Type 0 where

@@ -2,7 +2,7 @@
 
 ghost use Rattle.std.specs.Prelude.{◌≡◌, ℕ, ◌+◌, ◌-◌, ◌<◌, ◌≤◌, true, length};
 ghost use Rattle.commands.specs.Code.{when};
-ghost use Rattle.records.specs.Values.{source_of, splice_of, also_of, news_of};
+ghost use Rattle.journal.specs.Values.{source_of, splice_of, also_of, news_of};
 ghost use Rattle.memory.specs.Commit.{can_by, came_by, spliced_by, can_note, counts_by, noted_by, can_apply, kept_after, applied};
 ghost use Rattle.memory.specs.Sections.{can_file as filed};
 

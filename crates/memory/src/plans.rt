@@ -1,7 +1,7 @@
 //! A plan in fifteen numbers.
 
 ghost use Rattle.std.specs.Prelude.{◌≡◌, ◌≤◌, length};
-ghost use Rattle.memory.specs.Numbers.{walk_of as walked, walk_number as step, update_of as updated, update_kind, update_place, rows_of as rowed, rows_kind, rows_value, source_of as sourced, source_kind, source_from, source_to};
+ghost use Rattle.memory.specs.Numbers.{walk_of as walked, walk_number as step, update_of as updated, update_kind, update_place, rows_of as rowed, rows_kind, rows_value, source_by as sourced, source_kind, source_from, source_to};
 ghost use Rattle.memory.specs.Registers.{plan_in as loaded, plan_numbers as numbers};
 
 use crate::LIMIT;
@@ -77,7 +77,7 @@ fn source_of(kind: u64, from: u64, to: u64) -> Source
     ensures { result ≡ sourced kind from to }
 {
     match kind {
-        1 => Source::Given,
+        1 => Source::New,
         2 => Source::Copied {
             from: from % LIMIT,
             to: to % LIMIT,
@@ -91,7 +91,7 @@ fn source_numbers(source: Source) -> (u64, u64, u64)
 {
     match source {
         Source::Nothing => (0, 0, 0),
-        Source::Given => (1, 0, 0),
+        Source::New => (1, 0, 0),
         Source::Copied { from, to } => (2, from % LIMIT, to % LIMIT),
     }
 }

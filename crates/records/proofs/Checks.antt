@@ -9,8 +9,8 @@ use Rattle.journal.specs.Small.{News}
 use Rattle.records.specs.Pages.{beside, page_of, record_of, Bytes, RecFits}
 use Rattle.records.specs.Checked.{checked, checked_record_of}
 use Rattle.records.specs.Values.{rec_of}
-use Rattle.records.specs.declared.Splice as code
-use Rattle.records.specs.declared.Numbers.{Numbers}
+use Rattle.journal.specs.declared.commit.Splice as code
+use Rattle.journal.specs.declared.commit.Numbers.{Numbers}
 use Rattle.records.specs.declared.Record.{Record}
 use Rattle.records.specs.declared.Record.TheVariants.{Head, Line, Copy, Commit, Broken}
 use Rattle.records.proofs.Pages.{page-back, page-whole, torn-broken, none_broken}
@@ -67,7 +67,7 @@ commit_kept x c u e b = e ∙ sym (ap checked e ∙ checked_commit c u true b)
 pub commit_broken : (x : Rec News) (c : Splice) (u : News) → x ≡ commit c u → beside c ≡ false → broken ≡ checked x
 commit_broken x c u e b = sym (ap checked e ∙ checked_commit c u false b)
 
-pub others_kept : (r : Record) → ((s : code.Splice) (n : Numbers) (b : Bor (List ℕ)) → r ≡ Commit s n b → ⊥) → rec_of r ≡ checked (rec_of r)
+pub others_kept : (r : Record) → ((s : code.Splice ℕ) (n : Numbers ℕ) (b : Bor (List ℕ)) → r ≡ Commit s n b → ⊥) → rec_of r ≡ checked (rec_of r)
 others_kept (Head g n) h = refl
 others_kept (Line b) h = refl
 others_kept (Copy i b) h = refl

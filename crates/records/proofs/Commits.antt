@@ -3,20 +3,21 @@ use Rattle.std.proofs.Common.{◌≡◌, ℕ, suc, ◌-◌, ◌≤◌, List, [],
 use borrow.Rule.Slice.PartMut.{put_mid}
 use lib.ListN.{length-map}
 use Rattle.journal.specs.Log.{commit}
-use Rattle.records.specs.declared.Splice.{Splice}
-use Rattle.records.specs.declared.Also.{Also}
-use Rattle.records.specs.declared.Also.TheVariants.{Nothing, Push, Store}
-use Rattle.records.specs.declared.Numbers.{Numbers}
+use Rattle.journal.specs.declared.commit.Splice.{Splice}
+use Rattle.journal.specs.declared.commit.Also.{Also}
+use Rattle.journal.specs.declared.commit.Also.TheVariants.{Nothing, Push, Store}
+use Rattle.journal.specs.declared.commit.Numbers.{Numbers}
 use Rattle.records.specs.Pages.{fours, closed, source_kind, source_from, source_to, also_kind, also_number, entry_in, name_in, commit_numbers, page_of}
-use Rattle.records.specs.Values.{low_bytes, source_of, splice_of, also_of, name_for, news_of}
+use Rattle.records.specs.Values.{low_bytes, name_for}
+use Rattle.journal.specs.Values.{source_of, splice_of, also_of, news_of}
 use Rattle.records.proofs.Writing.{written_first, written_next, page-closed}
 
-name_is : (a : Also) (cells : List ℕ) → low_bytes (name_for a cells) ≡ (entry_in (also_of a (low_bytes cells))).name
+name_is : (a : Also ℕ) (cells : List ℕ) → low_bytes (name_for a cells) ≡ (entry_in (also_of a (low_bytes cells))).name
 name_is Nothing cells = refl
 name_is (Push weight) cells = refl
 name_is (Store slot lines weight) cells = refl
 
-module _ (s : Splice) (n : Numbers) (cells name : List ℕ) where
+module _ (s : Splice ℕ) (n : Numbers ℕ) (cells name : List ℕ) where
   abbrev pub SourceNumbers : ℕ × ℕ × ℕ → Type 0
   SourceNumbers src = src ≡ (source_kind (source_of s.source), source_from (source_of s.source), source_to (source_of s.source))
 

@@ -8,6 +8,7 @@ mod page;
 mod reader;
 mod writer;
 
+pub use journal::{Also, Numbers, Source, Splice};
 pub use reader::{decode, decode_checked, is_whole, piece_read};
 pub use writer::{
     LowByte, copy_line, encode_commit, encode_head, encode_line, lay, line_to_copy, records_for,
@@ -31,43 +32,6 @@ const COPY: u8 = 3;
 
 const COMMIT: u8 = 4;
 
-/// What comes in place of the entries of the directory that a splice takes out.
-#[derive(Clone, Copy)]
-pub enum Source {
-    Nothing,
-    /// The lines put on since the last commit.
-    New,
-    /// The entries from one index up to another once more.
-    Copied { from: u32, to: u32 },
-}
-
-/// A change of the directory: so many entries from an index on go, and others come.
-#[derive(Clone, Copy)]
-pub struct Splice {
-    pub from: u32,
-    pub gone: u32,
-    pub source: Source,
-}
-
-/// What a commit says besides the numbers of the text.
-#[derive(Clone, Copy)]
-pub enum Also {
-    Nothing,
-    /// The weight of a stand, behind those that there are.
-    Push(u32),
-    /// A file in a place of the table, under the name that comes with the record.
-    Store { slot: u32, lines: u32, weight: u32 },
-}
-
-/// The small state that a commit sets.
-#[derive(Clone, Copy)]
-pub struct Numbers {
-    pub count: u32,
-    pub current: u32,
-    pub weight: u32,
-    pub also: Also,
-}
-
 /// One record's share of a line that is so long.
 #[derive(Clone, Copy)]
 pub struct Piece<'a> {
@@ -89,8 +53,8 @@ pub enum Record<'a> {
         piece: Piece<'a>,
     },
     Commit {
-        splice: Splice,
-        numbers: Numbers,
+        splice: Splice<u32>,
+        numbers: Numbers<u32>,
         name: &'a [u8],
     },
     /// No record, or one that was not written whole.

@@ -1,7 +1,8 @@
 //! A page that was written whole, and the numbers in it.
 ghost use Rattle.std.specs.Prelude.{◌≡◌, ◌+◌, ◌<◌, ◌≤◌, true, false, length, slice_index, MatchOption};
 ghost use Rattle.records.specs.Pages.{also_in_page, four_at, name_in_page, news_in_page, piece_in_page, sealed, source_by, splice_in_page};
-ghost use Rattle.records.specs.Values.{also_of, news_of, piece_of, rec_of, source_of, splice_of};
+ghost use Rattle.records.specs.Values.{piece_of, rec_of};
+ghost use Rattle.journal.specs.Values.{also_of, news_of, source_of, splice_of};
 ghost use Rattle.journal.specs.Log.{commit as a_commit};
 
 use crate::{Also, Numbers, PAGE, Piece, Record, SEAL, Source, Splice};
@@ -59,7 +60,7 @@ impl<'a> Page<'a> {
         }
     }
 
-    fn source(self) -> Source
+    fn source(self) -> Source<u32>
         ensures { source_of result ≡ source_by (four_at self.entry.bytes.now 9) (four_at self.entry.bytes.now 13) (four_at self.entry.bytes.now 17) }
     {
         match self.number(9) {
@@ -72,7 +73,7 @@ impl<'a> Page<'a> {
         }
     }
 
-    fn splice(self) -> Splice
+    fn splice(self) -> Splice<u32>
         ensures { splice_of result ≡ splice_in_page self.entry.bytes.now }
     {
         Splice {
@@ -89,7 +90,7 @@ impl<'a> Page<'a> {
         &self.bytes[53..53 + long]
     }
 
-    fn also(self) -> Also
+    fn also(self) -> Also<u32>
         ensures { also_of result (name_in_page self.entry.bytes.now) ≡ also_in_page self.entry.bytes.now }
     {
         match self.number(33) {

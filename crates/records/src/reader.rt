@@ -2,7 +2,8 @@
 ghost use Rattle.std.specs.Prelude.{◌≡◌, ℕ, ◌+◌, ◌<◌, ◌≤◌, true, length};
 ghost use Rattle.records.specs.Checked.{checked_record_of, part_in};
 ghost use Rattle.records.specs.Pages.{beside as a_beside, record_of, sealed};
-ghost use Rattle.records.specs.Values.{piece_of, rec_of, splice_of};
+ghost use Rattle.records.specs.Values.{piece_of, rec_of};
+ghost use Rattle.journal.specs.Values.{splice_of};
 ghost use Rattle.journal.specs.Log.{piece_in};
 
 use crate::page::Page;
@@ -38,7 +39,7 @@ pub fn decode(page: &[u8]) -> Record<'_>
 }
 
 /// Whether what a splice copies lies before the entries that it takes out, or behind them.
-fn beside(splice: Splice) -> bool
+fn beside(splice: Splice<u32>) -> bool
     ensures { result ≡ a_beside (splice_of splice) }
 {
     match splice.source {

@@ -4,7 +4,8 @@ ghost use Rattle.journal.specs.Log.{commit as a_commit, copy as a_copy, head as 
 ghost use Rattle.records.specs.Lines.{records_for, share};
 ghost use Rattle.records.specs.Pages.{also_kind, also_number, closed, entry_in, fours, name_in, page_of, recopied, source_from, source_kind, source_to};
 ghost use Rattle.records.specs.Checked.{checked_record_of};
-ghost use Rattle.records.specs.Values.{also_of, low_bytes, name_for, news_of, source_of, splice_of};
+ghost use Rattle.records.specs.Values.{low_bytes, name_for};
+ghost use Rattle.journal.specs.Values.{also_of, news_of, source_of, splice_of};
 
 use crate::reader::piece_read;
 use crate::{Also, COMMIT, COPY, HEAD, LINE, Numbers, PAGE, SHARE, Source, Splice};
@@ -136,7 +137,7 @@ pub fn copy_line(read: &[u8], out: &mut [u8], index: u32, part: u8) -> u16
     piece.long
 }
 
-fn source_numbers(source: Source) -> (u32, u32, u32)
+fn source_numbers(source: Source<u32>) -> (u32, u32, u32)
     ensures { result ≡ (source_kind (source_of source), source_from (source_of source), source_to (source_of source)) }
 {
     match source {
@@ -146,7 +147,7 @@ fn source_numbers(source: Source) -> (u32, u32, u32)
     }
 }
 
-fn also_numbers(also: Also) -> (u32, u32, u32, u32)
+fn also_numbers(also: Also<u32>) -> (u32, u32, u32, u32)
     ensures { (name : List ℕ) → result ≡ (also_kind (also_of also name), also_number (also_of also name), (entry_in (also_of also name)).lines, (entry_in (also_of also name)).size) }
 {
     match also {
@@ -161,7 +162,7 @@ fn also_numbers(also: Also) -> (u32, u32, u32, u32)
 }
 
 /// The name, if a file is stored.
-fn stored_name(also: Also, name: &[u64]) -> &[u64]
+fn stored_name(also: Also<u32>, name: &[u64]) -> &[u64]
     ensures { result.now ≡ name_for also name.now }
 {
     match also {
@@ -171,7 +172,7 @@ fn stored_name(also: Also, name: &[u64]) -> &[u64]
 }
 
 /// A commit; the name of a file that it stores lies in cells of memory.
-pub fn encode_commit(out: &mut [u8], splice: Splice, numbers: Numbers, name: &[u64])
+pub fn encode_commit(out: &mut [u8], splice: Splice<u32>, numbers: Numbers<u32>, name: &[u64])
     requires { (512 ≤ length out.old) × (length name.now ≤ 64) }
     ensures { out.new ≡ page_of (a_commit (splice_of splice) (news_of numbers (low_bytes name.now))) ++ drop 512 out.old }
 {

@@ -10,7 +10,7 @@ use Rattle.records.specs.Checked.{checked_record_of}
 use Rattle.commands.specs.declared.plan.Walk.TheVariants as walk
 use Rattle.commands.specs.declared.plan.Update.TheVariants as update
 use Rattle.commands.specs.declared.plan.Rows.TheVariants as rows
-use Rattle.commands.specs.declared.plan.Source.TheVariants as source
+use Rattle.journal.specs.declared.commit.Source.TheVariants as source
 use Rattle.commands.specs.declared.plan.Plan.{Plan}
 use Rattle.engine.specs.Machine.{no_limit}
 use Rattle.memory.specs.declared.phase.Phase.TheVariants.{WakeFirst, WakeSecond, Replaying, FreshBegun, FreshHead, FreshFast}

@@ -2,7 +2,7 @@
 
 ghost use Rattle.std.specs.Prelude.{◌≡◌, ◌≤◌};
 ghost use Rattle.plain.specs.Device.{lesser as smaller};
-ghost use Rattle.records.specs.Values.{source_of, splice_of};
+ghost use Rattle.journal.specs.Values.{source_of, splice_of};
 ghost use Rattle.commits.specs.News.{within, clamped};
 
 use records::{Source, Splice};

@@ -2,7 +2,7 @@
 
 ghost use Rattle.std.specs.Prelude.{◌≡◌, ℕ, suc, ◌+◌, ◌*◌, ◌<◌, ◌≤◌, List, length};
 ghost use Rattle.journal.specs.Log.{Piece as LogPiece, head as a_head, line as a_line, copy as a_copy, commit as a_commit};
-ghost use Rattle.records.specs.Values.{splice_of, news_of};
+ghost use Rattle.journal.specs.Values.{splice_of, news_of};
 ghost use Rattle.memory.specs.Registers.{Tame};
 ghost use Rattle.commits.specs.Acts.{Says};
 ghost use Rattle.commits.specs.Setters.{with_used, with_tapes, with_kept};

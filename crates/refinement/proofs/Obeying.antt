@@ -9,7 +9,8 @@ use Rattle.journal.specs.Small.{small}
 use Rattle.commands.specs.Kept.{fit_name}
 use Rattle.commands.specs.Resolve.{Checked, good, refused}
 use Rattle.commands.specs.Plan as plan
-use Rattle.commands.specs.Code.{walk_as, update_as, rows_as, source_as, plan_as}
+use Rattle.commands.specs.Code.{walk_as, update_as, rows_as, plan_as}
+use Rattle.journal.specs.Values.{source_of}
 use Rattle.commands.specs.Turn.{lines_given, name_given}
 use Rattle.commands.specs.Held.{ReadsWell, ReadsFew}
 use Rattle.commands.proofs.Readings.{Typed, no_lines, lines_in, reads_well, reads_few, reads-typed, reads_one}
@@ -58,7 +59,7 @@ rows_back plan.no_row = refl
 rows_back (plan.a_number n) = refl
 rows_back plan.all_files = refl
 
-source-back : (s : log.Source) → source_as (source_code s) ≡ s
+source-back : (s : log.Source) → source_of (source_code s) ≡ s
 source-back log.no_entries = refl
 source-back log.new_entries = refl
 source-back (log.copied a b) = refl

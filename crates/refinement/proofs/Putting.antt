@@ -11,7 +11,7 @@ use Rattle.records.specs.Pages.{page_of, source_beside}
 use Rattle.commands.specs.Plan as plan
 use Rattle.commands.specs.Plan.{same_as_before, current_only, the_text, the_file}
 use Rattle.commands.specs.Smalls.{news_by}
-use Rattle.commands.specs.Code.{splice_as}
+use Rattle.journal.specs.Values.{splice_of}
 use Rattle.engine.specs.State as engine
 use Rattle.engine.specs.State.{House, house, walking_of, putting_of}
 use Rattle.engine.specs.Fits.{Fits, StoreFits, UpdateFits, PositionsFit, more, PositionFits}
@@ -75,14 +75,14 @@ module _ (r : Registers) (m : List ℕ) (h : length m ≡ 262144) where
   unfolding put_commit
   commit_safe b = record {
     bounded = bounded (last_target r);
-    kept = kept_pick (last_target r) m _ m (kept-applied r.kept (clamped r.kept.entries (splice_as r.job.plan.splice)) (news_in r m) m h) (kept_same m);
+    kept = kept_pick (last_target r) m _ m (kept-applied r.kept (clamped r.kept.entries (splice_of r.job.plan.splice)) (news_in r m) m h) (kept_same m);
   }
     where
       active : (target_longer r).active < 2
       active = active_pick r.putting.second _ _ 2 b.active b.active
 
       bounded : (c : Bool) → Bounded (in_phase CommitPut (pick c (committed r m) (with_tapes (target_longer r) r)))
-      bounded true = record { active = active; kept = tame_kept_by r.kept (splice_as r.job.plan.splice) (machine.news_of (house_of r m)) b.kept; name = b.name; text = b.text; bytes = b.bytes; at = b.at }
+      bounded true = record { active = active; kept = tame_kept_by r.kept (splice_of r.job.plan.splice) (machine.news_of (house_of r m)) b.kept; name = b.name; text = b.text; bytes = b.bytes; at = b.at }
       bounded false = record { active = active; kept = b.kept; name = b.name; text = b.text; bytes = b.bytes; at = b.at }
 
   abbrev x : House
@@ -94,10 +94,10 @@ module _ (r : Registers) (m : List ℕ) (h : length m ≡ 262144) where
   abbrev first_state : House
   first_state = engine.at_phase engine.commit_put (engine.with_tapes (machine.target_longer x) x)
 
-  last_same : Bounded r → Fits last_state → house_of (in_phase CommitPut (committed r m)) (applied_by r.kept (splice_as r.job.plan.splice) (news_in r m) m) ≡ last_state
+  last_same : Bounded r → Fits last_state → house_of (in_phase CommitPut (committed r m)) (applied_by r.kept (splice_of r.job.plan.splice) (news_in r m) m) ≡ last_state
   unfolding house_of
   last_same b f =
-      let c : Splice = splice_as r.job.plan.splice in
+      let c : Splice = splice_of r.job.plan.splice in
       let u : News = machine.news_of x in
       let fit = f.job.plan in
       let w : SlotWord u.also = slot_word x.job.plan.update x.store.small x.job.plan x.walking.went _ x.job.name fit.update in
@@ -115,14 +115,14 @@ module _ (r : Registers) (m : List ℕ) (h : length m ≡ 262144) where
       cursors false e = ap (λ n. engine.with_cursor (machine.cursor_after r.tapes.cursor r.job.plan.splice.from r.job.plan.splice.gone n) (engine.with_used (suc r.tapes.used) (tapes_as r.tapes))) (sym e)
 
       registers-by : News → Registers
-      registers-by v = with_kept (kept_by r.kept (splice_as r.job.plan.splice) v) (with_tapes (with_cursor (cursor_then r) (target_longer r)) r)
+      registers-by v = with_kept (kept_by r.kept (splice_of r.job.plan.splice) v) (with_tapes (with_cursor (cursor_then r) (target_longer r)) r)
 
   pub commit_same : Bounded r → Fits (machine.put_commit (house_of r m)).state → Same (put_commit r m) (machine.put_commit (house_of r m))
   unfolding put_commit house_of
   commit_same b f = record { act = refl; state = go (last_target r) f }
     where
       go : (c : Bool) → Fits (engine.at_phase engine.commit_put (pick c (engine.with_store (machine.applied x) (engine.with_tapes (engine.with_cursor (machine.cursor_then x) (machine.target_longer x)) x)) (engine.with_tapes (machine.target_longer x) x))) →
-          house_of (in_phase CommitPut (pick c (committed r m) (with_tapes (target_longer r) r))) (pick c (applied_by r.kept (splice_as r.job.plan.splice) (news_in r m) m) m)
+          house_of (in_phase CommitPut (pick c (committed r m) (with_tapes (target_longer r) r))) (pick c (applied_by r.kept (splice_of r.job.plan.splice) (news_in r m) m) m)
           ≡ engine.at_phase engine.commit_put (pick c (engine.with_store (machine.applied x) (engine.with_tapes (engine.with_cursor (machine.cursor_then x) (machine.target_longer x)) x)) (engine.with_tapes (machine.target_longer x) x))
       go true g = last_same b g
       go false g = λ i. house engine.commit_put (tapes_pick r.putting.second (with_other (suc r.tapes.other) r.tapes) (with_used (suc r.tapes.used) r.tapes) i) x.store x.job x.walking x.putting x.carrying

@@ -9,10 +9,10 @@ unfolding resolve_plain
 returns-in_err-line c =
     let a = address_of c.args.address in
     let p = err_from_is_err_and c.from_residual.result c.from_residual.ensures.1 in
-    rw (p.1, p.2) (then_lost (base_plain c.args.count c.args.current a) (counted c.args.count a) _ c.in_err-line.ensures)
+    rw (p.1, p.2) (then_lost (base_plain c.args.sizes.count c.args.sizes.current a) (counted c.args.sizes.count a) _ c.in_err-line.ensures)
 
 pub returns : goal.returns
 unfolding resolve_plain
 returns c =
     let a = address_of c.args.address in
-    then-on (base_plain c.args.count c.args.current a) (counted c.args.count a) c.in_ok-line.line _ c.in_ok-line.ensures c.step.ensures
+    then-on (base_plain c.args.sizes.count c.args.sizes.current a) (counted c.args.sizes.count a) c.in_ok-line.line _ c.in_ok-line.ensures c.step.ensures

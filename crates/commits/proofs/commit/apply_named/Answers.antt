@@ -1,7 +1,7 @@
 use Rattle.std.proofs.Common.{◌≡◌, map, length, unwrap_or, sym, ap, ◌∙◌, arith}
 use Rattle.std.proofs.lemmas.List.{length-take, length-drop}
 use Rattle.plain.specs.Pattern.{pick}
-use Rattle.records.specs.Values.{news_of, splice_of}
+use Rattle.journal.specs.Values.{news_of, splice_of}
 use Rattle.memory.specs.Abstract.{name_of}
 use Rattle.memory.specs.Commit.{can_apply, kept_after, applied}
 use Rattle.memory.specs.Sections.{low, name_in}

@@ -1,4 +1,4 @@
-use Rattle.records.specs.Values.{news_of}
+use Rattle.journal.specs.Values.{news_of}
 use Rattle.memory.specs.Abstract.{name_of}
 use Rattle.commits.proofs.Paged.{news-said, page_put}
 use Rattle.commits.proofs.Committed.{put_first, put_last}

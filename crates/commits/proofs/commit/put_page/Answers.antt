@@ -4,7 +4,8 @@ use Rattle.journal.specs.Log.{commit}
 use Rattle.memory.specs.Abstract.{name_of}
 use Rattle.memory.specs.Sections.{name_in}
 use Rattle.records.specs.Pages.{page_of}
-use Rattle.records.specs.Values.{low_bytes, news_of}
+use Rattle.records.specs.Values.{low_bytes}
+use Rattle.journal.specs.Values.{news_of}
 use Rattle.commits.proofs.commit.put_page.Goals as goal
 
 pub encode_commit-requires : goal.encode_commit-requires

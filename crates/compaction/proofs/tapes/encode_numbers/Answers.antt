@@ -1,5 +1,6 @@
 use Rattle.journal.specs.Log.{no_splice}
-use Rattle.records.specs.Values.{low_bytes, news_of}
+use Rattle.records.specs.Values.{low_bytes}
+use Rattle.journal.specs.Values.{news_of}
 use Rattle.compaction.proofs.Paged.{commit-laid, name_few}
 use Rattle.compaction.proofs.tapes.encode_numbers.Goals as goal
 

@@ -1,5 +1,5 @@
 use Rattle.memory.specs.Abstract.{name_of}
-use Rattle.commits.specs.News.{news_as}
+use Rattle.journal.specs.Values.{news_of}
 use Rattle.execution.proofs.Light.{news_light}
 use Rattle.execution.proofs.Roomed.{room_compared, name-long}
 use Rattle.execution.proofs.room.no_room.Goals as goal
@@ -16,5 +16,5 @@ returns c =
     let r = c.args.registers.now in
     let m = c.args.memory.now in
     let n = name_of r.job.name m in
-    room_compared r m (news_as c.news_of-news.result n) c.no_room.result c.total_weight-before.result c.weight_after-after.result c.news_of-news.ensures
+    room_compared r m (news_of c.news_of-news.result n) c.no_room.result c.total_weight-before.result c.weight_after-after.result c.news_of-news.ensures
     c.total_weight-before.ensures.total (c.weight_after-after.ensures n (name-long r.job.name m c.requires.0 c.requires.1.bounded.name)) c.no_room.ensures

@@ -1,4 +1,4 @@
-use Rattle.records.specs.Values.{splice_of, news_of}
+use Rattle.journal.specs.Values.{splice_of, news_of}
 use Rattle.memory.proofs.Committing.{applied_unnoted, applied_unspliced, applied-both}
 use Rattle.memory.proofs.commit.apply.Goals as goal
 

@@ -1,6 +1,7 @@
 use Rattle.std.proofs.Common.{◌<◌, sym, refl, subst}
 use Rattle.journal.specs.Log.{head, line, copy, commit, broken}
-use Rattle.records.specs.Values.{piece_of, splice_of, news_of}
+use Rattle.records.specs.Values.{piece_of}
+use Rattle.journal.specs.Values.{splice_of, news_of}
 use Rattle.recovery.proofs.Replayed.{next_said, replayed_as}
 use Rattle.recovery.proofs.replay.replay_record.Goals as goal
 

@@ -1,0 +1,38 @@
+//! What a commit says, in numbers of a width of their own: as a page has them, or as sums are made of them.
+
+/// What comes in place of the entries of the directory that a splice takes out.
+#[derive(Clone, Copy)]
+pub enum Source<N> {
+    Nothing,
+    /// The lines put on since the last commit.
+    New,
+    /// The entries from one index up to another once more.
+    Copied { from: N, to: N },
+}
+
+/// A change of the directory: so many entries from an index on go, and others come.
+#[derive(Clone, Copy)]
+pub struct Splice<N> {
+    pub from: N,
+    pub gone: N,
+    pub source: Source<N>,
+}
+
+/// What a commit says besides the numbers of the text.
+#[derive(Clone, Copy)]
+pub enum Also<N> {
+    Nothing,
+    /// The weight of a stand, behind those that there are.
+    Push(N),
+    /// A file in a place of the table, under the name that comes with the commit.
+    Store { slot: N, lines: N, weight: N },
+}
+
+/// The small state that a commit sets.
+#[derive(Clone, Copy)]
+pub struct Numbers<N> {
+    pub count: N,
+    pub current: N,
+    pub weight: N,
+    pub also: Also<N>,
+}
