@@ -9,13 +9,13 @@ use journal::{Source, Splice};
 /// What is done with each line that is walked over.
 #[derive(Clone, Copy)]
 pub enum Walk {
-    Skip,
-    Show,
-    ShowNumbered,
+    Skip = 0,
+    Show = 1,
+    ShowNumbered = 2,
     /// Its weight is added up.
-    Measure,
+    Measure = 3,
     /// Its bytes come behind those of the lines before it.
-    Join,
+    Join = 4,
 }
 
 /// What is different afterwards.

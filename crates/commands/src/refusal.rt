@@ -2,20 +2,20 @@
 ghost use Rattle.std.specs.Prelude.{◌≡◌};
 ghost use Rattle.commands.specs.Code.{refusal_number};
 
-#[derive(Clone, Copy)]
+#[derive(Clone, Copy, PartialEq, Eq)]
 pub enum Refusal {
     /// It can't be read.
-    Unreadable,
+    Unreadable = 1,
     /// It isn't known yet.
-    Unknown,
+    Unknown = 2,
     /// There is no such file.
-    NoFile,
+    NoFile = 3,
     /// There is no such line, the second stands before the first, or there is none where one is needed.
-    NoLine,
+    NoLine = 4,
     /// A line would be too long, or there would be too many files.
-    TooLarge,
+    TooLarge = 7,
     /// There is no room for what would be kept.
-    NoRoom,
+    NoRoom = 8,
 }
 
 impl Refusal {
@@ -23,13 +23,6 @@ impl Refusal {
     pub fn number(self) -> u64
         ensures { result ≡ refusal_number self }
     {
-        match self {
-            Refusal::Unreadable => 1,
-            Refusal::Unknown => 2,
-            Refusal::NoFile => 3,
-            Refusal::NoLine => 4,
-            Refusal::TooLarge => 7,
-            Refusal::NoRoom => 8,
-        }
+        self as u64
     }
 }

@@ -4,6 +4,7 @@ use Rattle.std.proofs.lemmas.List.{length-take, length-drop, length-map, length-
 use Rattle.std.proofs.lemmas.Bool.{lt-ltb, le-ltb, le-leb, lt-leb, ne_eqb, eq-eqb, and_right}
 use Rattle.plain.specs.Pattern.{pick, added_up, same}
 use Rattle.plain.specs.Device.{lesser}
+use Rattle.std.specs.List.{list_all, zip}
 use Rattle.plain.proofs.Basics.{added_append}
 use Rattle.journal.specs.Small.{Entry}
 use Rattle.commands.specs.Plan.{look_up, slot_of}
@@ -77,23 +78,12 @@ same_unlike [] (y ∷ ys) h = refl
 same_unlike (x ∷ xs) [] h = refl
 same_unlike (x ∷ xs) (y ∷ ys) h = and_right (eqb x y) (same xs ys) (same_unlike xs ys (λ e. h (ap suc e)))
 
-pub same_more : (cs bs : List ℕ) (i : ℕ) → i < length cs → i < length bs → low (get_or cs i 0) ≡ get_or bs i 0
-    → same (map low (drop i cs)) (drop i bs) ≡ same (map low (drop (i + 1) cs)) (drop (i + 1) bs)
+pub same_zip : (cs bs : List ℕ) → length cs ≡ length bs → list_all (λ p. eqb (p.0 % 256) p.1) (zip cs bs) ≡ same (map low cs) bs
 unfolding same
-same_more cs bs i h k e =
-    (λ j. same (map low (drop_more cs i 0 h j)) (drop_more bs i 0 k j))
-    ∙ ap (λ t. t && same (map low (drop (i + 1) cs)) (drop (i + 1) bs)) (eq-eqb (low (get_or cs i 0)) (get_or bs i 0) e)
-
-pub same_not : (cs bs : List ℕ) (i : ℕ) → i < length cs → i < length bs → (low (get_or cs i 0) ≡ get_or bs i 0 → ⊥)
-    → same (map low (drop i cs)) (drop i bs) ≡ false
-unfolding same
-same_not cs bs i h k e =
-    (λ j. same (map low (drop_more cs i 0 h j)) (drop_more bs i 0 k j))
-    ∙ ap (λ t. t && same (map low (drop (i + 1) cs)) (drop (i + 1) bs)) (ne_eqb (low (get_or cs i 0)) (get_or bs i 0) e)
-
-pub same_end : (cs bs : List ℕ) (i : ℕ) → length cs ≤ i → length bs ≤ i → same (map low (drop i cs)) (drop i bs) ≡ true
-unfolding same
-same_end cs bs i h k = λ j. same (map low (drop_all i cs h j)) (drop_all i bs k j)
+same_zip [] [] h = refl
+same_zip [] (b ∷ bs) h = absurd (omega arith)
+same_zip (c ∷ cs) [] h = absurd (omega arith)
+same_zip (c ∷ cs) (b ∷ bs) h = ap (λ t. eqb (c % 256) b && t) (same_zip cs bs (omega arith))
 
 module _ (name : List ℕ) (i n before : ℕ) (s : List ℕ) (h : i < n) where
   pub found_here : same (file_at (part (67 * i) 67 s)).name name ≡ true

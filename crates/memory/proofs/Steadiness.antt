@@ -134,7 +134,7 @@ rows-small rows.Nothing = omega arith
 rows-small (rows.Number n) = omega arith
 rows-small rows.Files = omega arith
 
-source-small : (s : Source) → (source_kind s < 4294967296) × (source_from s < 4294967296) × (source_to s < 4294967296)
+source-small : (s : Source ℕ) → (source_kind s < 4294967296) × (source_from s < 4294967296) × (source_to s < 4294967296)
 source-small source.Nothing = omega arith
 source-small source.New = omega arith
 source-small (source.Copied a b) = omega arith

@@ -102,7 +102,7 @@ rows_back rows.Nothing t = refl
 rows_back (rows.Number n) t = ap rows.Number (twice n t)
 rows_back rows.Files t = refl
 
-source-back : (s : Source) → TameSource s → source_by (source_kind s) (source_from s) (source_to s) ≡ s
+source-back : (s : Source ℕ) → TameSource s → source_by (source_kind s) (source_from s) (source_to s) ≡ s
 source-back source.Nothing t = refl
 source-back source.New t = refl
 source-back (source.Copied a b) t = λ i. source.Copied (twice a t.0 i) (twice b t.1 i)

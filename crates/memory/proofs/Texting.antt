@@ -1,6 +1,8 @@
 -- Text in the cells. Assumes nothing.
-use Rattle.std.proofs.Common.{◌≡◌, ℕ, zero, suc, ◌+◌, ◌<◌, ◌≤◌, List, [], ◌∷◌, ◌++◌, map, length, get_or, take, drop, set, sym, refl, ap, ◌∙◌, add-one, arith}
-use Rattle.std.proofs.lemmas.List.{length-take, length-drop, length-map, drop_all, drop_more, get_or-map}
+use Rattle.std.proofs.Common.{◌≡◌, ℕ, zero, suc, ◌+◌, ◌%◌, ◌<◌, ◌≤◌, Bool, true, false, not, cond, eqb, List, [], ◌∷◌, ◌++◌, map, length, get_or, take, drop, set, sym, refl, ap, ◌∙◌, add-one, arith}
+use Rattle.std.proofs.lemmas.List.{length-take, length-take-le, length-drop, length-map, drop-map, drop_all, drop_more, get_or-map}
+use Rattle.std.proofs.lemmas.List.Sums.{prefix_len-le-length}
+use Rattle.std.specs.List.{prefix_len, take_while}
 use Rattle.std.proofs.lemmas.Bool.{eq-eqb, ne_eqb}
 use Rattle.plain.specs.Pattern.{pick}
 use Rattle.memory.specs.Sections.{low, with_low, cells_in, laid_low, newline}
@@ -72,3 +74,20 @@ text-long n m h g = let l = cells_long m h in length-map (take n (cells_in m)) l
 
 pub whole-end : (at n : ℕ) (m : List ℕ) → length m ≡ 262144 → n ≤ 65536 → at ≤ n → n ≡ at + length (drop at (text_of n m))
 whole-end at n m h g k = let l = text-long n m h g in simp length-drop (omega arith)
+
+-- by how many bytes are no newline
+pub newline_by : (k : ℕ) (cs : List ℕ) → k + prefix_len (λ c. not (eqb (c % 256) 10)) cs ≡ newline k (map low cs)
+unfolding newline
+newline_by k [] = omega arith
+newline_by k (c ∷ cs) = by (newline_by (suc k) cs) (eqb (c % 256) 10)
+  where
+    by : suc k + prefix_len (λ x. not (eqb (x % 256) 10)) cs ≡ newline (suc k) (map low cs) → (b : Bool) →
+        k + cond (not b) (1 + prefix_len (λ x. not (eqb (x % 256) 10)) cs) 0 ≡ pick b k (newline (suc k) (map low cs))
+    by h true = omega arith
+    by h false = (omega arith) ∙ h
+
+pub newline_from : (from n : ℕ) (cs : List ℕ) → n ≡ length (take_while (λ c. not (eqb (c % 256) 10)) (drop from cs)) → from + n ≡ newline from (drop from (map low cs))
+newline_from from n cs e =
+    let p = prefix_len (λ c. not (eqb (c % 256) 10)) (drop from cs) in
+    let l : n ≡ p = e ∙ length-take-le p (drop from cs) (prefix_len-le-length _ (drop from cs)) in
+    ap (λ m. from + m) l ∙ newline_by from (drop from cs) ∙ ap (newline from) (sym (drop-map low from cs))

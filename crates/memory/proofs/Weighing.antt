@@ -1,6 +1,8 @@
 -- The ring, and sums over it. Assumes nothing.
-use Rattle.std.proofs.Common.{◌≡◌, ℕ, zero, suc, ◌+◌, ◌<◌, ◌≤◌, List, [], ◌∷◌, ◌++◌, map, length, get_or, take, drop, set, sym, refl, ap, ◌∙◌, arith}
+use Rattle.std.proofs.Common.{◌≡◌, ℕ, zero, suc, ◌+◌, ◌*◌, ◌<◌, ◌≤◌, List, [], ◌∷◌, ◌++◌, map, length, get_or, take, drop, set, sym, refl, ap, ◌∙◌, arith}
 use Rattle.std.proofs.lemmas.List.{length-take, length-map, take-take, set_at, map_more, get_or-map, get_or-take}
+use Rattle.std.proofs.lemmas.List.Sums.{sum_by-cons}
+use Rattle.std.specs.List.{sum_by}
 use Rattle.std.proofs.lemmas.Bool.{lt-ltb, le-ltb}
 use Rattle.plain.specs.Pattern.{pick}
 use Rattle.plain.proofs.Basics.{added_append}
@@ -29,6 +31,15 @@ count_full n h = ap (λ b. pick b (n + 1) 64) (sym (le-ltb n 64 h))
 pub sum_more : (ws : List ℕ) (i : ℕ) → i < length ws → sum (map capped (take i ws)) + capped (get_or ws i 0) ≡ sum (map capped (take (i + 1) ws))
 sum_more ws i h =
     sym (ap sum (map_more capped ws i 0 h) ∙ added_append (λ n. n) (map capped (take i ws)) (capped (get_or ws i 0) ∷ []) ∙ omega arith)
+
+-- the library's sum of numbers is the same, and registers are few
+pub sums_same : (ns : List ℕ) → sum_by (λ n. n) ns ≡ sum ns
+sums_same [] = refl
+sums_same (n ∷ ns) = sum_by-cons (λ m. m) n ns ∙ ap (λ t. n + t) (sums_same ns)
+
+pub sum_few : (ws : List ℕ) → sum (map capped ws) ≤ 4294967295 * length ws
+sum_few [] = omega arith
+sum_few (w ∷ ws) = let h = sum_few ws in omega arith
 
 pub ring_front : (n : ℕ) (m : List ℕ) → n ≤ 64 → map capped (take n (drop 64 m)) ≡ ring_of n m
 unfolding ring_of

@@ -90,20 +90,20 @@ rows_value rows.Nothing = 0
 rows_value (rows.Number n) = capped n
 rows_value rows.Files = 0
 
-abbrev pub source_by : ℕ → ℕ → ℕ → Source
+abbrev pub source_by : ℕ → ℕ → ℕ → Source ℕ
 source_by kind a b = pick (kind == 1) source.New (pick (kind == 2) (source.Copied (capped a) (capped b)) source.Nothing)
 
-abbrev pub source_kind : Source → ℕ
+abbrev pub source_kind : Source ℕ → ℕ
 source_kind source.Nothing = 0
 source_kind source.New = 1
 source_kind (source.Copied a b) = 2
 
-abbrev pub source_from : Source → ℕ
+abbrev pub source_from : Source ℕ → ℕ
 source_from source.Nothing = 0
 source_from source.New = 0
 source_from (source.Copied a b) = capped a
 
-abbrev pub source_to : Source → ℕ
+abbrev pub source_to : Source ℕ → ℕ
 source_to source.Nothing = 0
 source_to source.New = 0
 source_to (source.Copied a b) = capped b

@@ -162,7 +162,7 @@ TameRows rows.Nothing = Unit {0}
 TameRows (rows.Number n) = Word n
 TameRows rows.Files = Unit {0}
 
-abbrev pub TameSource : Source → Type 0
+abbrev pub TameSource : Source ℕ → Type 0
 TameSource source.Nothing = Unit {0}
 TameSource source.New = Unit {0}
 TameSource (source.Copied a b) = Word a × Word b

@@ -9,7 +9,8 @@ ghost use Rattle.memory.specs.Sections.{can_file as filed};
 use crate::{
     Kept, NAMES, TABLE, push_weight, set_file, splice_copied, splice_nothing, splice_pending,
 };
-use records::{Also, Numbers, Source, Splice};
+use journal::{Also, Numbers, Source, Splice};
+use lines::Cut;
 
 /// How many weights there are in the ring, and how many files.
 #[derive(Clone, Copy)]
@@ -19,41 +20,40 @@ struct Counts {
 }
 
 /// The splice of the first `entries` entries, and how many there are then; None where it can't be done.
-fn splice_entries(memory: &mut [u64], entries: u64, pending: u64, splice: Splice) -> Option<u64>
+fn splice_entries(
+    memory: &mut [u64],
+    entries: u64,
+    pending: u64,
+    splice: Splice<u32>,
+) -> Option<u64>
     requires { length memory.old ≡ 262144 }
     ensures count { result ≡ when (can_by (source_of splice.source) entries splice.from splice.gone pending) (entries - splice.gone + came_by (source_of splice.source) pending) }
     ensures memory { memory.new ≡ spliced_by (source_of splice.source) entries splice.from splice.gone pending memory.old }
 {
-    let from = splice.from as u64;
-    let gone = splice.gone as u64;
+    let cut = Cut {
+        count: entries as usize,
+        from: splice.from as usize,
+        gone: splice.gone as usize,
+    };
     match splice.source {
-        Source::Nothing => splice_nothing(memory, entries, from, gone),
-        Source::New => splice_pending(memory, entries, from, gone, pending),
-        Source::Copied { from: x, to: y } => {
-            splice_copied(memory, entries, from, gone, x as u64, y as u64)
-        }
+        Source::Nothing => splice_nothing(memory, cut),
+        Source::New => splice_pending(memory, cut, pending),
+        Source::Copied { from, to } => splice_copied(memory, cut, from as u64, to as u64),
     }
 }
 
 /// Whether a file that is stored has room.
-fn can_note(files: u64, also: Also, name: &[u8]) -> bool
+fn can_note(files: u64, also: Also<u32>, name: &[u8]) -> bool
     ensures { result ≡ can_note (also_of also name.now) files }
 {
     match also {
         Also::Nothing | Also::Push(_) => true,
-        Also::Store { slot, .. } => {
-            let place = if (slot as u64) < files {
-                slot as u64
-            } else {
-                files
-            };
-            place < TABLE as u64 && name.len() <= NAMES
-        }
+        Also::Store { slot, .. } => { files.min(slot as u64) < TABLE as u64 && name.len() <= NAMES }
     }
 }
 
 /// What a commit says besides the numbers of the text.
-fn note(memory: &mut [u64], counts: Counts, also: Also, name: &[u8]) -> Counts
+fn note(memory: &mut [u64], counts: Counts, also: Also<u32>, name: &[u8]) -> Counts
     requires { length memory.old ≡ 262144 }
     ensures counts { result ≡ counts_by (also_of also name.now) counts.ring counts.files }
     ensures memory { memory.new ≡ noted_by (also_of also name.now) counts.ring counts.files memory.old }
@@ -90,8 +90,8 @@ fn note(memory: &mut [u64], counts: Counts, also: Also, name: &[u8]) -> Counts
 pub fn apply(
     memory: &mut [u64],
     kept: Kept,
-    splice: Splice,
-    numbers: Numbers,
+    splice: Splice<u32>,
+    numbers: Numbers<u32>,
     name: &[u8],
 ) -> Option<Kept>
     requires { length memory.old ≡ 262144 }
@@ -101,9 +101,7 @@ pub fn apply(
     if !can_note(kept.files, numbers.also, name) {
         return None;
     }
-    let Some(entries) = splice_entries(memory, kept.entries, kept.pending, splice) else {
-        return None;
-    };
+    let entries = splice_entries(memory, kept.entries, kept.pending, splice)?;
     let counts = Counts {
         ring: kept.ring,
         files: kept.files,

@@ -5,6 +5,7 @@ ghost use Rattle.commands.specs.Code.{when};
 ghost use Rattle.memory.specs.Sections.{packed_position, entry_position, entry_at, next_at, with_entry, cleared, with_high, with_pending, pending_filled, can_put, can_splice, can_copy, pending_spliced, nothing_spliced, copied_spliced};
 
 use crate::{CELLS, DIRECTORY, TEXT, WORDS};
+use lines::Cut;
 
 /// Above a record's number an entry has its tape.
 const TAPE: u64 = 1_048_576;
@@ -91,21 +92,21 @@ fn put_above(cells: &mut [u64], j: usize, entry: u64)
     cells[j] = cells[j] % BYTE + BYTE * (entry % ENTRY);
 }
 
-/// The `j`th pending line is at this position. False where there are too many, and then nothing is changed.
-pub fn push_pending(memory: &mut [u64], j: u64, position: Position) -> bool
+/// The `j`th pending line is at this position. Says how many there are then, or None where there are too many, and then nothing is changed.
+pub fn push_pending(memory: &mut [u64], j: u64, position: Position) -> Option<u64>
     requires { length memory.old ≡ 262144 }
-    ensures done { result ≡ nat_lt j 65536 }
+    ensures done { result ≡ when (nat_lt j 65536) (j + 1) }
     ensures memory { memory.new ≡ with_pending j position memory.old }
 {
     if j >= TEXT as u64 {
-        return false;
+        return None;
     }
     put_above(
         &mut memory[CELLS..CELLS + TEXT],
         j as usize,
         position.entry(),
     );
-    true
+    Some(j + 1)
 }
 
 /// The entries from `p` on are those of the first `k` pending lines.
@@ -119,75 +120,46 @@ fn fill_pending(memory: &mut [u64], p: usize, k: usize)
     }
 }
 
-/// In place of `gone` entries from `from` on, of `entries`: those of the first `pending` pending lines. Says how many entries there are then,
-/// or None where it can't be done, and then nothing is changed.
-pub fn splice_pending(
-    memory: &mut [u64],
-    entries: u64,
-    from: u64,
-    gone: u64,
-    pending: u64,
-) -> Option<u64>
+/// In place of the entries that are cut: those of the first `pending` pending lines. Says how many entries there are then, or None where it
+/// can't be done, and then nothing is changed.
+pub fn splice_pending(memory: &mut [u64], cut: Cut, pending: u64) -> Option<u64>
     requires { length memory.old ≡ 262144 }
-    ensures count { result ≡ when (can_put entries from gone pending) (entries - gone + pending) }
-    ensures memory { memory.new ≡ pending_spliced entries from gone pending memory.old }
+    ensures count { result ≡ when (can_put cut.count cut.from cut.gone pending) (cut.count - cut.gone + pending) }
+    ensures memory { memory.new ≡ pending_spliced cut.count cut.from cut.gone pending memory.old }
 {
     if pending > TEXT as u64 {
         return None;
     }
-    let Some(count) = lines::make_room(
+    let count = lines::make_room(
         &mut memory[DIRECTORY..DIRECTORY + WORDS],
-        entries as usize,
-        from as usize,
-        gone as usize,
+        cut,
         pending as usize,
-    ) else {
-        return None;
-    };
-    fill_pending(memory, from as usize, pending as usize);
+    )?;
+    fill_pending(memory, cut.from, pending as usize);
     Some(count as u64)
 }
 
 /// The same, with nothing in their place.
-pub fn splice_nothing(memory: &mut [u64], entries: u64, from: u64, gone: u64) -> Option<u64>
+pub fn splice_nothing(memory: &mut [u64], cut: Cut) -> Option<u64>
     requires { length memory.old ≡ 262144 }
-    ensures count { result ≡ when (can_splice entries from gone 0) (entries - gone + 0) }
-    ensures memory { memory.new ≡ nothing_spliced entries from gone memory.old }
+    ensures count { result ≡ when (can_splice cut.count cut.from cut.gone 0) (cut.count - cut.gone + 0) }
+    ensures memory { memory.new ≡ nothing_spliced cut.count cut.from cut.gone memory.old }
 {
-    match lines::splice(
-        &mut memory[DIRECTORY..DIRECTORY + WORDS],
-        entries as usize,
-        from as usize,
-        gone as usize,
-        &[],
-    ) {
-        Some(count) => Some(count as u64),
-        None => None,
-    }
+    let count = lines::splice(&mut memory[DIRECTORY..DIRECTORY + WORDS], cut, &[])?;
+    Some(count as u64)
 }
 
 /// The same, with the entries from `x` up to `y` once more, which lie before those that go or behind them.
-pub fn splice_copied(
-    memory: &mut [u64],
-    entries: u64,
-    from: u64,
-    gone: u64,
-    x: u64,
-    y: u64,
-) -> Option<u64>
+pub fn splice_copied(memory: &mut [u64], cut: Cut, x: u64, y: u64) -> Option<u64>
     requires { length memory.old ≡ 262144 }
-    ensures count { result ≡ when (can_copy entries from gone x y) (entries - gone + (y - x)) }
-    ensures memory { memory.new ≡ copied_spliced entries from gone x y memory.old }
+    ensures count { result ≡ when (can_copy cut.count cut.from cut.gone x y) (cut.count - cut.gone + (y - x)) }
+    ensures memory { memory.new ≡ copied_spliced cut.count cut.from cut.gone x y memory.old }
 {
-    match lines::duplicate(
+    let count = lines::duplicate(
         &mut memory[DIRECTORY..DIRECTORY + WORDS],
-        entries as usize,
-        from as usize,
-        gone as usize,
+        cut,
         x as usize,
         y as usize,
-    ) {
-        Some(count) => Some(count as u64),
-        None => None,
-    }
+    )?;
+    Some(count as u64)
 }

@@ -9,46 +9,43 @@ use crate::{LIMIT, plans};
 use commands::Plan;
 
 /// What of the text in the cells is put on.
-#[derive(Clone, Copy)]
+#[derive(Clone, Copy, PartialEq, Eq)]
 pub enum Lines {
     /// None of it.
-    Nothing,
+    Nothing = 0,
     /// Its lines, between bytes 10.
-    Given,
+    Given = 1,
     /// One line, which is all of it.
-    Joined,
+    Joined = 2,
 }
 
-impl Lines {
-    pub fn from_number(n: u64) -> Lines
-        ensures { result ≡ decoded n }
-    {
+/// The lines of a number; of others than these, nothing.
+impl From<u64> for Lines {
+    ghost from_gives = { λ n lines. lines ≡ decoded n };
+
+    fn from(n: u64) -> Self {
         match n {
             1 => Lines::Given,
             2 => Lines::Joined,
             _ => Lines::Nothing,
         }
     }
+}
 
-    pub fn number(self) -> u64
-        ensures { result ≡ numbered self }
-    {
-        match self {
-            Lines::Nothing => 0,
-            Lines::Given => 1,
-            Lines::Joined => 2,
-        }
+impl From<Lines> for u64 {
+    ghost from_gives = { λ lines n. n ≡ numbered lines };
+
+    fn from(lines: Lines) -> Self {
+        lines as u64
     }
+}
 
+impl Lines {
     /// Whether there is a line.
     pub fn some(self) -> bool
         ensures { result ≡ some_lines self }
     {
-        match self {
-            Lines::Nothing => false,
-            Lines::Given => true,
-            Lines::Joined => true,
-        }
+        !matches!(self, Lines::Nothing)
     }
 }
 
@@ -72,7 +69,7 @@ impl Job {
         Job {
             name: section[0] % 65,
             size: section[1] % LIMIT,
-            lines: Lines::from_number(section[2]),
+            lines: Lines::from(section[2]),
             text: section[3] % 65_537,
             plan: plans::load(&section[4..19]),
         }
@@ -85,7 +82,7 @@ impl Job {
         section[0..4].copy_from_slice(&[
             self.name % LIMIT,
             self.size % LIMIT,
-            self.lines.number(),
+            u64::from(self.lines),
             self.text % LIMIT,
         ]);
         plans::store(self.plan, &mut section[4..19]);

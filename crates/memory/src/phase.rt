@@ -3,103 +3,91 @@
 ghost use Rattle.std.specs.Prelude.{◌≡◌};
 ghost use Rattle.memory.specs.Numbers.{phase_of as decoded, phase_number as numbered};
 
-#[derive(Clone, Copy)]
+#[derive(Clone, Copy, PartialEq, Eq)]
 pub enum Phase {
     /// A command ended.
-    Idle,
+    Idle = 0,
     /// The first record of tape 0 was asked for.
-    WakeFirst,
+    WakeFirst = 1,
     /// And of tape 1.
-    WakeSecond,
+    WakeSecond = 2,
     /// A record of the tape that counts was asked for.
-    Replaying,
+    Replaying = 3,
     /// No tape counts: tape 0 was begun anew.
-    FreshBegun,
+    FreshBegun = 4,
     /// Its head was put on.
-    FreshHead,
+    FreshHead = 5,
     /// It was fastened.
-    FreshFast,
+    FreshFast = 6,
     /// The other tape was begun anew.
-    CompactBegun,
+    CompactBegun = 7,
     /// Its head, or a record of the small state, was put on.
-    SettingUp,
+    SettingUp = 8,
     /// A record of an entry was asked for.
-    CarryRead,
+    CarryRead = 9,
     /// And put on the other tape.
-    CarryPut,
+    CarryPut = 10,
     /// The other tape was fastened.
-    CompactFast,
+    CompactFast = 11,
     /// The old tape was begun anew.
-    Switched,
+    Switched = 12,
     /// A record of a line was asked for.
-    Fetching,
+    Fetching = 13,
     /// A line was shown.
-    RowShown,
+    RowShown = 14,
     /// A record of a new line was put on.
-    LinePut,
+    LinePut = 15,
     /// The commit was put on.
-    CommitPut,
+    CommitPut = 16,
     /// The tape that counts was fastened.
-    CommitFast,
+    CommitFast = 17,
     /// A number was shown.
-    CountShown,
+    CountShown = 18,
     /// A row of the table of files was shown.
-    FileShown,
+    FileShown = 19,
 }
 
-impl Phase {
-    /// The phase of a number; of others than these, idle.
-    pub fn from_number(n: u64) -> Phase
-        ensures { result ≡ decoded n }
-    {
-        match n {
-            1 => Phase::WakeFirst,
-            2 => Phase::WakeSecond,
-            3 => Phase::Replaying,
-            4 => Phase::FreshBegun,
-            5 => Phase::FreshHead,
-            6 => Phase::FreshFast,
-            7 => Phase::CompactBegun,
-            8 => Phase::SettingUp,
-            9 => Phase::CarryRead,
-            10 => Phase::CarryPut,
-            11 => Phase::CompactFast,
-            12 => Phase::Switched,
-            13 => Phase::Fetching,
-            14 => Phase::RowShown,
-            15 => Phase::LinePut,
-            16 => Phase::CommitPut,
-            17 => Phase::CommitFast,
-            18 => Phase::CountShown,
-            19 => Phase::FileShown,
-            _ => Phase::Idle,
+/// The phases by their numbers.
+const PHASES: [Phase; 20] = [
+    Phase::Idle,
+    Phase::WakeFirst,
+    Phase::WakeSecond,
+    Phase::Replaying,
+    Phase::FreshBegun,
+    Phase::FreshHead,
+    Phase::FreshFast,
+    Phase::CompactBegun,
+    Phase::SettingUp,
+    Phase::CarryRead,
+    Phase::CarryPut,
+    Phase::CompactFast,
+    Phase::Switched,
+    Phase::Fetching,
+    Phase::RowShown,
+    Phase::LinePut,
+    Phase::CommitPut,
+    Phase::CommitFast,
+    Phase::CountShown,
+    Phase::FileShown,
+];
+
+/// The phase of a number; of others than these, idle.
+impl From<u64> for Phase {
+    ghost from_gives = { λ n phase. phase ≡ decoded n };
+
+    fn from(n: u64) -> Self {
+        if n < PHASES.len() as u64 {
+            PHASES[n as usize]
+        } else {
+            Phase::Idle
         }
     }
+}
 
-    pub fn number(self) -> u64
-        ensures { result ≡ numbered self }
-    {
-        match self {
-            Phase::Idle => 0,
-            Phase::WakeFirst => 1,
-            Phase::WakeSecond => 2,
-            Phase::Replaying => 3,
-            Phase::FreshBegun => 4,
-            Phase::FreshHead => 5,
-            Phase::FreshFast => 6,
-            Phase::CompactBegun => 7,
-            Phase::SettingUp => 8,
-            Phase::CarryRead => 9,
-            Phase::CarryPut => 10,
-            Phase::CompactFast => 11,
-            Phase::Switched => 12,
-            Phase::Fetching => 13,
-            Phase::RowShown => 14,
-            Phase::LinePut => 15,
-            Phase::CommitPut => 16,
-            Phase::CommitFast => 17,
-            Phase::CountShown => 18,
-            Phase::FileShown => 19,
-        }
+impl From<Phase> for u64 {
+    ghost from_gives = { λ phase n. n ≡ numbered phase };
+
+    fn from(phase: Phase) -> Self {
+        phase as u64
     }
 }

@@ -5,7 +5,8 @@ ghost use Rattle.memory.specs.Numbers.{walk_of as walked, walk_number as step, u
 ghost use Rattle.memory.specs.Registers.{plan_in as loaded, plan_numbers as numbers};
 
 use crate::LIMIT;
-use commands::{Plan, Rows, Source, Span, Splice, Update, Walk};
+use commands::{Plan, Rows, Span, Update, Walk};
+use journal::{Source, Splice};
 
 fn walk_of(n: u64) -> Walk
     ensures { result ≡ walked n }
@@ -22,13 +23,7 @@ fn walk_of(n: u64) -> Walk
 fn walk_number(walk: Walk) -> u64
     ensures { result ≡ step walk }
 {
-    match walk {
-        Walk::Skip => 0,
-        Walk::Show => 1,
-        Walk::ShowNumbered => 2,
-        Walk::Measure => 3,
-        Walk::Join => 4,
-    }
+    walk as u64
 }
 
 fn update_of(kind: u64, place: u64) -> Update
@@ -73,7 +68,7 @@ fn rows_numbers(rows: Rows) -> (u64, u64)
     }
 }
 
-fn source_of(kind: u64, from: u64, to: u64) -> Source
+fn source_of(kind: u64, from: u64, to: u64) -> Source<u64>
     ensures { result ≡ sourced kind from to }
 {
     match kind {
@@ -86,7 +81,7 @@ fn source_of(kind: u64, from: u64, to: u64) -> Source
     }
 }
 
-fn source_numbers(source: Source) -> (u64, u64, u64)
+fn source_numbers(source: Source<u64>) -> (u64, u64, u64)
     ensures { result ≡ (source_kind source, source_from source, source_to source) }
 {
     match source {

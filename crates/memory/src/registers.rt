@@ -23,7 +23,7 @@ impl Registers {
         ensures { result ≡ loaded memory.now }
     {
         Registers {
-            phase: Phase::from_number(memory[0]),
+            phase: Phase::from(memory[0]),
             tapes: Tapes::load(&memory[1..8]),
             kept: Kept::load(&memory[8..15]),
             job: Job::load(&memory[15..34]),
@@ -38,7 +38,7 @@ impl Registers {
         requires { 48 ≤ length memory.old }
         ensures { memory.new ≡ stored self memory.old }
     {
-        memory[0] = self.phase.number();
+        memory[0] = u64::from(self.phase);
         self.tapes.store(&mut memory[1..8]);
         self.kept.store(&mut memory[8..15]);
         self.job.store(&mut memory[15..34]);

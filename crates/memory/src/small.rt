@@ -1,6 +1,8 @@
 //! The small state beside the directory: weights of stands, and the table of files.
 
 ghost use Rattle.std.specs.Prelude.{◌≡◌, ℕ, ◌+◌, ◌-◌, ◌*◌, ◌<◌, ◌≤◌, map, length, take, drop, nat_le, slice_index};
+ghost use Rattle.std.specs.Prelude.{sum as std_sum, ◌%◌, ◌^◌, ◌==◌};
+ghost use Rattle.std.specs.List.{list_all, zip};
 ghost use Rattle.plain.specs.Device.{lesser};
 ghost use Rattle.plain.specs.Pattern.{added_up, same};
 ghost use Rattle.commands.specs.Code.{when, slot_as};
@@ -38,11 +40,15 @@ pub fn push_weight(memory: &mut [u64], ring: u64, weight: u64) -> u64
     ensures memory { memory.new ≡ with_weight ring weight memory.old }
 {
     push(&mut memory[RING..RING + WEIGHTS], ring as usize, weight);
-    if ring < WEIGHTS as u64 {
-        ring + 1
-    } else {
-        WEIGHTS as u64
-    }
+    ring.saturating_add(1).min(WEIGHTS as u64)
+}
+
+/// The numbers of registers, added up.
+fn capped_sum(weights: &[u64]) -> u64
+    requires { std_sum (map capped weights.now) < 2 ^ 64 }
+    ensures { result ≡ std_sum (map capped weights.now) }
+{
+    weights.iter().map(|weight| *weight % LIMIT).sum()
 }
 
 fn sum(weights: &[u64]) -> u64
@@ -50,11 +56,7 @@ fn sum(weights: &[u64]) -> u64
     ensures total { result ≡ summed (map capped weights.now) }
     ensures few { result ≤ 274877906944 }
 {
-    let mut total = 0;
-    for weight in weights {
-        total += *weight % LIMIT;
-    }
-    total
+    capped_sum(weights)
 }
 
 /// What all stands weigh.
@@ -167,18 +169,21 @@ pub fn total_weight(memory: &[u64], kept: Kept) -> u64
 }
 
 /// Whether cells hold this name.
+#[tactic(auto, using(crate::proofs::Filing::same_zip, crate::proofs::Filing::same_unlike))]
 fn same_name(cells: &[u64], name: &[u8]) -> bool
     ensures { result ≡ same (map low cells.now) name.now }
 {
-    if cells.len() != name.len() {
-        return false;
-    }
-    for (i, byte) in name.iter().enumerate() {
-        if cells[i] % 256 != *byte as u64 {
-            return false;
-        }
-    }
-    true
+    cells.len() == name.len() && same_bytes(cells, name)
+}
+
+/// Whether each cell holds the byte beside it.
+fn same_bytes(cells: &[u64], name: &[u8]) -> bool
+    ensures { result ≡ list_all (λ p. p.0 % 256 == p.1) (zip cells.now name.now) }
+{
+    cells
+        .iter()
+        .zip(name)
+        .all(|(cell, byte)| *cell % 256 == u64::from(*byte))
 }
 
 /// Where the file of a name is in the table, or would come.
@@ -214,6 +219,7 @@ fn lay(section: &mut [u64], bytes: &[u8])
     requires { length bytes.now ≤ length section.old }
     ensures { section.new ≡ over bytes.now section.old }
 {
+    // An index, since the proof knows nothing of `section` after `iter_mut().zip(bytes)`.
     for (i, byte) in bytes.iter().enumerate() {
         section[i] = *byte as u64 % 256;
     }
@@ -241,7 +247,7 @@ fn put_file_at(table: &mut [u64], i: usize, lines: u64, size: u64, name: &[u8])
 fn place_of(files: u64, i: u64) -> u64
     ensures { result ≡ lesser i files }
 {
-    if i < files { i } else { files }
+    i.min(files)
 }
 
 /// How many files there are then.
@@ -283,17 +289,17 @@ pub fn set_file(
     Some(files_with(files, i))
 }
 
-/// The name that a command has. False where it is too long, and then nothing is changed.
-pub fn keep_name(memory: &mut [u64], name: &[u8]) -> bool
+/// The name that a command has. Says how many bytes it has, or None where it is too long, and then nothing is changed.
+pub fn keep_name(memory: &mut [u64], name: &[u8]) -> Option<u64>
     requires { length memory.old ≡ 262144 }
-    ensures done { result ≡ nat_le (length name.now) 64 }
+    ensures done { result ≡ when (nat_le (length name.now) 64) (length name.now) }
     ensures memory { memory.new ≡ name_kept name.now memory.old }
 {
     if name.len() > NAMES {
-        return false;
+        return None;
     }
     lay(&mut memory[NAME..NAME + NAMES], name);
-    true
+    Some(name.len() as u64)
 }
 
 /// The first `n` cells of that name.

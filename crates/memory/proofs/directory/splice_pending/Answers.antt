@@ -7,29 +7,29 @@ use Rattle.memory.proofs.directory.splice_pending.Goals as goal
 pub returns-then-pending : goal.returns-then-pending
 unfolding pending_spliced
 returns-then-pending c =
-    rw (put_many c.args.entries c.args.from c.args.gone c.args.pending c.if-pending.true) record { count = refl; memory = refl }
+    rw (put_many c.args.cut.count c.args.cut.from c.args.cut.gone c.args.pending c.if-pending.true) record { count = refl; memory = refl }
 
-pub returns-in_default : goal.returns-in_default
+pub returns-in_err-count : goal.returns-in_err-count
 unfolding pending_spliced
-returns-in_default c =
-    let e = c.in_default.ensures in
-    let r = put_none c.args.entries c.args.from c.args.gone c.args.pending c.args.memory.now c.make_room.new.dir c.requires c.if-pending.false
+returns-in_err-count c =
+    let e = c.in_err-count.ensures in
+    let r = put_none c.args.cut.count c.args.cut.from c.args.cut.gone c.args.pending c.args.memory.now c.make_room.new.dir c.requires c.if-pending.false
     e.done e.refused in
-    record { count = r.count; memory = r.memory }
+    record { count = c.from_residual.ensures ∙ r.count; memory = r.memory }
 
 pub fill_pending-requires : goal.fill_pending-requires
 fill_pending-requires c =
-    let e = c.in-Some.ensures in
-    let s = room_can c.args.entries c.args.from c.args.gone c.args.pending c.in-Some.count c.args.memory.now _ c.requires e.refused in
+    let e = c.in_ok-count.ensures in
+    let s = room_can c.args.cut.count c.args.cut.from c.args.cut.gone c.args.pending c.in_ok-count.count c.args.memory.now _ c.requires e.refused in
     let l : length c.make_room.new.dir ≡ 174763 = c.make_room.auto.dir ∙ words_long c.args.memory.now c.requires in
     (length_with 70016 174763 c.args.memory.now c.make_room.new.dir (omega arith) l ∙ c.requires, (c.if-pending.false, omega (arith, s.there, s.held, s.fits)))
 
 pub returns : goal.returns
 unfolding pending_spliced
 returns c =
-    let e = c.in-Some.ensures in
-    let s = room_can c.args.entries c.args.from c.args.gone c.args.pending c.in-Some.count c.args.memory.now _ c.requires e.refused in
+    let e = c.in_ok-count.ensures in
+    let s = room_can c.args.cut.count c.args.cut.from c.args.cut.gone c.args.pending c.in_ok-count.count c.args.memory.now _ c.requires e.refused in
     let l : length c.make_room.new.dir ≡ 174763 = c.make_room.auto.dir ∙ words_long c.args.memory.now c.requires in
-    let r = put_all c.args.entries c.args.from c.args.gone c.args.pending c.in-Some.count c.args.memory.now c.make_room.new.dir
+    let r = put_all c.args.cut.count c.args.cut.from c.args.cut.gone c.args.pending c.in_ok-count.count c.args.memory.now c.make_room.new.dir
     c.fill_pending.new.memory c.requires c.if-pending.false l e.done s e.spare c.fill_pending.ensures in
     record { count = r.count; memory = r.memory }

@@ -1,20 +1,12 @@
-use Rattle.std.proofs.Common.{map, sym, ◌∙◌, arith}
+use Rattle.std.proofs.Common.{map, sym, ◌∙◌, ne_eqb}
 use Rattle.std.proofs.lemmas.List.{length-map}
 use Rattle.memory.specs.Sections.{low}
-use Rattle.memory.proofs.Filing.{same_unlike, same_more, same_not, same_end}
+use Rattle.memory.proofs.Filing.{same_unlike, same_zip}
 use Rattle.memory.proofs.small.same_name.Goals as goal
 
 pub returns-then-cells-name : goal.returns-then-cells-name
-returns-then-cells-name c =
-    sym (same_unlike (map low c.args.cells.now) c.args.name.now (λ e. c.if-cells-name.true (sym (length-map c.args.cells.now low) ∙ e)))
+returns-then-cells-name c = c.same_bytes.ensures ∙ same_zip c.args.cells.now c.args.name.now c.if-cells-name.true
 
-pub returns-then-cells-i : goal.returns-then-cells-i
-returns-then-cells-i c =
-    sym (same_not c.args.cells.now c.args.name.now c.loop-i.i (omega arith) (omega arith) c.if-cells-i.true) ∙ c.loop-i.invariant
-
-pub loop-i-preserved : goal.loop-i-preserved
-loop-i-preserved c =
-    sym (same_more c.args.cells.now c.args.name.now c.loop-i.i (omega arith) (omega arith) c.if-cells-i.false) ∙ c.loop-i.invariant
-
-pub returns : goal.returns
-returns c = sym (same_end c.args.cells.now c.args.name.now c.loop-i.i (omega arith) (omega arith)) ∙ c.loop-i.invariant
+pub returns-else-cells-name : goal.returns-else-cells-name
+returns-else-cells-name c =
+    ne_eqb _ _ c.if-cells-name.false ∙ sym (same_unlike (map low c.args.cells.now) c.args.name.now (λ e. c.if-cells-name.false (sym (length-map c.args.cells.now low) ∙ e)))

@@ -1,19 +1,13 @@
-use Rattle.std.proofs.Common.{◌+◌, map, get_or, ap, ◌∙◌, arith}
-use Rattle.std.proofs.lemmas.List.{take_all}
-use Rattle.commands.specs.Kept.{sum}
+use Rattle.std.proofs.Common.{map, ◌∙◌, arith}
 use Rattle.memory.specs.Numbers.{capped}
-use Rattle.memory.proofs.Weighing.{sum_more}
+use Rattle.memory.proofs.Weighing.{sums_same, sum_few}
 use Rattle.memory.proofs.small.sum.Goals as goal
 
-pub loop-weight-preserved : goal.loop-weight-preserved
-loop-weight-preserved c = (
-  ap (λ n. n + capped (get_or c.args.weights.now c.loop-weight.weight-index 0)) c.loop-weight.invariant.0
-      ∙ sum_more c.args.weights.now c.loop-weight.weight-index (omega arith),
-  omega (arith, c.loop-weight.invariant.1),
-)
+pub capped_sum-requires : goal.capped_sum-requires
+capped_sum-requires c = omega (arith, sums_same (map capped c.args.weights.now), sum_few c.args.weights.now)
 
-pub returns : goal.returns
-returns c = record {
-  total = c.loop-weight.invariant.0 ∙ ap (λ t. sum (map capped t)) (take_all c.loop-weight.weight-index c.args.weights.now (omega arith));
-  few = omega (arith, c.loop-weight.invariant.1);
-}
+pub returns-clause-total : goal.returns-clause-total
+returns-clause-total c = c.capped_sum.ensures ∙ sums_same (map capped c.args.weights.now)
+
+pub returns-clause-few : goal.returns-clause-few
+returns-clause-few c = omega (arith, c.capped_sum.ensures, sums_same (map capped c.args.weights.now), sum_few c.args.weights.now)

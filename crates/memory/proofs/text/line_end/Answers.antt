@@ -1,9 +1,10 @@
-use Rattle.std.proofs.Common.{◌≡◌, ℕ, ◌≤◌, List, map, length, drop, sym, ap, ◌∙◌, arith}
+use Rattle.std.proofs.Common.{◌≡◌, ℕ, ◌≤◌, ◌⊎◌, inl, inr, List, map, length, drop, sym, ap, ◌∙◌, arith}
 use Rattle.memory.specs.Abstract.{text_of, line_end}
 use Rattle.memory.specs.Sections.{low, newline}
 use Rattle.memory.proofs.Texting.{whole-end, text-long}
 use Rattle.memory.proofs.Worded.{line-ends}
 use Rattle.memory.specs.declared.job.Lines.{Lines}
+use Rattle.memory.specs.declared.job.Lines.TheVariants.{Joined, Nothing}
 use Rattle.memory.proofs.text.line_end.Goals as goal
 
 pub newline-requires : goal.newline-requires
@@ -25,16 +26,16 @@ returns-in-Given c =
     ∙ ap (λ l. line_end l c.args.from (text_of c.args.len c.args.memory.now)) (sym c.in-Given.is)) in
     record { end = r.0; behind = r.1.0; within = r.1.1 }
 
+-- all that is put on ends behind the last byte
+whole : (ls : Lines) (from len : ℕ) (m : List ℕ) → length m ≡ 262144 → from ≤ len → len ≤ 65536 → (ls ≡ Joined) ⊎ (ls ≡ Nothing) → len ≡ line_end ls from (text_of len m)
+whole ls from len m h g k is =
+    elim is [
+      | inl e ↦ whole-end from len m h k g ∙ ap (λ l. line_end l from (text_of len m)) (sym e)
+      | inr e ↦ whole-end from len m h k g ∙ ap (λ l. line_end l from (text_of len m)) (sym e)
+    ]
+
 pub returns-in-Joined : goal.returns-in-Joined
 returns-in-Joined c =
-    let r = ended c.args.lines c.args.from c.args.len c.args.len c.args.memory.now c.requires.0 (omega arith) (omega arith)
-    (whole-end c.args.from c.args.len c.args.memory.now c.requires.0 (omega arith) (omega arith)
-    ∙ ap (λ l. line_end l c.args.from (text_of c.args.len c.args.memory.now)) (sym c.in-Joined.is)) in
-    record { end = r.0; behind = r.1.0; within = r.1.1 }
-
-pub returns-in-Nothing : goal.returns-in-Nothing
-returns-in-Nothing c =
-    let r = ended c.args.lines c.args.from c.args.len c.args.len c.args.memory.now c.requires.0 (omega arith) (omega arith)
-    (whole-end c.args.from c.args.len c.args.memory.now c.requires.0 (omega arith) (omega arith)
-    ∙ ap (λ l. line_end l c.args.from (text_of c.args.len c.args.memory.now)) (sym c.in-Nothing.is)) in
+    let h = c.requires.0 in
+    let r = ended c.args.lines c.args.from c.args.len c.args.len c.args.memory.now h (omega arith) (omega arith) (whole c.args.lines c.args.from c.args.len c.args.memory.now h (omega arith) (omega arith) c.in-Joined.is) in
     record { end = r.0; behind = r.1.0; within = r.1.1 }

@@ -4,7 +4,7 @@ use Rattle.memory.proofs.registers.Registers.load.Goals as goal
 pub returns : goal.returns
 unfolding loaded
 returns c = λ i. record {
-  phase = c.from_number.ensures i;
+  phase = c.from.ensures i;
   tapes = c.load.ensures i;
   kept = c.load-2.ensures i;
   job = c.load-3.ensures i;
