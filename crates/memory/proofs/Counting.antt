@@ -3,7 +3,6 @@ use Rattle.std.proofs.Common.{◌≡◌, ℕ, suc, ◌+◌, ◌-◌, ◌*◌, �
 use Rattle.std.proofs.lemmas.List.{length-take, length-drop}
 use Rattle.std.proofs.lemmas.Bool.{ltb-true}
 use Rattle.plain.specs.Pattern.{pick, added_up}
-use Rattle.engine.specs.Packing.{records_of}
 use Rattle.memory.specs.declared.job.Lines.{Lines}
 use Rattle.memory.specs.Abstract.{job_lines, left_of, line_end, some_lines}
 use Rattle.memory.proofs.Worded.{Ends, line-ends, left_first, left_start}
@@ -70,14 +69,3 @@ ends_later len at end more e h g = subst (λ b. pick (ltb end len) (len + 1 - (e
     by : (b : Bool) → pick b (len + 1 - (end + 1)) 0 < len + 1 - at
     by true = omega arith
     by false = omega arith
-
-pub weight_bound : (n : ℕ) → 64 + n ≤ 65 * (n + 1)
-weight_bound n = omega arith
-
-pub records_bound : (n : ℕ) → records_of n ≤ 3 * (n + 1)
-records_bound n = by (ltb 1006 n) (ltb 503 n)
-  where
-    by : (a b : Bool) → pick a 3 (pick b 2 1) ≤ 3 * (n + 1)
-    by true b = omega arith
-    by false true = omega arith
-    by false false = omega arith

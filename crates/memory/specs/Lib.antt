@@ -4,3 +4,4 @@ pub mod Sections
 pub mod Abstract
 pub mod Commit
 pub mod Laws
+pub mod Bounds

@@ -2,10 +2,10 @@ use Rattle.std.proofs.Common.{◌+◌, ◌-◌}
 use Rattle.plain.specs.Pattern.{pick}
 use Rattle.memory.specs.Abstract.{text_of}
 use Rattle.memory.proofs.Counting.{Summed}
-use Rattle.memory.proofs.measures.lines_weight.Given as goal
+use Rattle.memory.proofs.measures.total.Given as goal
 
 abbrev pub invariant-loop-more : goal.invariant-loop-more
-invariant-loop-more l = Summed (λ n. 64 + n) 65 l.lines (text_of l.len l.memory) l.weight l.at l.more
+invariant-loop-more g l = Summed g.M.Measure.size g.M.Measure.most l.lines (text_of l.len l.memory) l.sum l.at l.more
 
 abbrev pub decreases-loop-more : goal.decreases-loop-more
-decreases-loop-more l = pick l.more (l.len + 1 - l.at) 0
+decreases-loop-more g l = pick l.more (l.len + 1 - l.at) 0
