@@ -37,7 +37,7 @@ unfolding page_of
 commit-long c u h = let n = length-closed 458 (name_in u) (omega arith) in omega arith
 
 -- THE PAGE OF A COMMAND'S COMMIT
-name-small : (a : declared.Also) (name : List ℕ) → length name ≤ 64 → length (entry_in (also_of a name)).name ≤ 64
+name-small : (a : declared.Also ℕ) (name : List ℕ) → length name ≤ 64 → length (entry_in (also_of a name)).name ≤ 64
 name-small code.Nothing name h = omega arith
 name-small (code.Push w) name h = omega arith
 name-small (code.Store k l w) name h = h
@@ -46,7 +46,7 @@ pub name_few : (n : ℕ) (m : List ℕ) → n ≤ 64 → length (name_of n m) �
 unfolding name_of
 name_few n m h = let k = length-map (take n (name_in_memory m)) low in let l = length-take n (name_in_memory m) in omega arith
 
-module _ (r : Registers) (m out out₁ : List ℕ) (v : Numbers) (n : declared_news.News) (few : r.job.name ≤ 64) where
+module _ (r : Registers) (m out out₁ : List ℕ) (v : Numbers ℕ) (n : declared_news.Numbers ℕ) (few : r.job.name ≤ 64) where
   abbrev name_now : List ℕ
   name_now = name_of r.job.name m
 

@@ -43,7 +43,7 @@ WideRows rows.Nothing = Unit {0}
 WideRows (rows.Number n) = Wide n
 WideRows rows.Files = Unit {0}
 
-abbrev pub WideSource : Source → Type 0
+abbrev pub WideSource : Source ℕ → Type 0
 WideSource source.Nothing = Unit {0}
 WideSource source.New = Unit {0}
 WideSource (source.Copied a b) = Wide a × Wide b

@@ -11,18 +11,6 @@ use Rattle.memory.specs.declared.kept.Kept.{Kept}
 use Rattle.memory.specs.declared.registers.Registers.{Registers}
 use Rattle.memory.specs.Abstract.{house_of}
 use Rattle.memory.specs.Commit as memory
-use Rattle.journal.specs.declared.commit.Numbers.{Numbers}
-use Rattle.journal.specs.declared.commit.Also.{Also}
-use Rattle.journal.specs.declared.commit.Also.TheVariants.{Nothing, Push, Store}
-
--- what the code says of the small state, with the name of a file
-abbrev pub also_of : Also → List ℕ → small.Also
-also_of Nothing name = small.nothing_else
-also_of (Push weight) name = small.push weight
-also_of (Store slot lines weight) name = small.slot slot (entry name lines weight)
-
-abbrev pub news_of : News → List ℕ → small.News
-news_of n name = small.news n.count n.current n.weight (also_of n.also name)
 
 -- A SPLICE INSIDE THE DIRECTORY: one of so many entries, which does the same
 abbrev pub within : ℕ → Source → Source

@@ -12,8 +12,8 @@ ghost use Rattle.commits.specs.News.{kept_by, applied_by};
 ghost use Rattle.commits.specs.Putting.{cursor_then, put_commit};
 
 use crate::{Told, clamp, news_of, numbers, splice, targets};
+use journal::Numbers;
 use memory::{Job, Kept, Phase, Registers};
-use records::Numbers;
 
 /// How many bytes a name has at most.
 const NAMES: usize = 64;
@@ -36,7 +36,7 @@ fn cursor_then(registers: &Registers) -> u64
 }
 
 /// The page of the commit over the front of `out`.
-fn put_page(registers: &Registers, memory: &[u64], numbers: Numbers, out: &mut [u8])
+fn put_page(registers: &Registers, memory: &[u64], numbers: Numbers<u32>, out: &mut [u8])
     requires { (length memory.now ≡ 262144) × ((131072 ≤ length out.old) × (Loose registers.now)) }
     ensures { out.new ≡ page_of (a_commit (cut_splice (splice_of registers.now.job.plan.splice)) (news_of numbers (name_of registers.now.job.name memory.now))) ++ drop 512 out.old }
 {
@@ -46,7 +46,13 @@ fn put_page(registers: &Registers, memory: &[u64], numbers: Numbers, out: &mut [
 }
 
 /// Applies the commit in memory, with a row for the name of a file, and says what is kept then.
-fn apply_named(memory: &mut [u64], kept: Kept, job: Job, numbers: Numbers, name: &mut [u8]) -> Kept
+fn apply_named(
+    memory: &mut [u64],
+    kept: Kept,
+    job: Job,
+    numbers: Numbers<u32>,
+    name: &mut [u8],
+) -> Kept
     requires { (length memory.old ≡ 262144) × ((length name.old ≡ 64) × ((kept.entries ≤ 524289) × (job.name ≤ 64))) }
     ensures kept { result ≡ kept_by kept (splice_of job.plan.splice) (news_of numbers (name_of job.name memory.old)) }
     ensures memory { memory.new ≡ applied_by kept (splice_of job.plan.splice) (news_of numbers (name_of job.name memory.old)) memory.old }
@@ -58,7 +64,7 @@ fn apply_named(memory: &mut [u64], kept: Kept, job: Job, numbers: Numbers, name:
 }
 
 /// Applies the commit in memory, and says what is kept then.
-fn apply(memory: &mut [u64], kept: Kept, job: Job, numbers: Numbers) -> Kept
+fn apply(memory: &mut [u64], kept: Kept, job: Job, numbers: Numbers<u32>) -> Kept
     requires { (length memory.old ≡ 262144) × ((kept.entries ≤ 524289) × (job.name ≤ 64)) }
     ensures kept { result ≡ kept_by kept (splice_of job.plan.splice) (news_of numbers (name_of job.name memory.old)) }
     ensures memory { memory.new ≡ applied_by kept (splice_of job.plan.splice) (news_of numbers (name_of job.name memory.old)) memory.old }

@@ -8,7 +8,8 @@ mod putting;
 mod rows;
 mod targets;
 
-pub use news::{Also, News, clamp, news_of, numbers, splice};
+pub use journal::{Also, Numbers};
+pub use news::{clamp, news_of, numbers, splice};
 pub use protocol::Told;
 pub use putting::{after_commit, after_fast, after_line, put_next, start_pass};
 pub use rows::{end_done, finish, put_number, refuse, show_files};

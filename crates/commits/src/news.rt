@@ -10,30 +10,12 @@ ghost use Rattle.commits.specs.Bounds.{Loose, Wide};
 ghost use Rattle.records.specs.Checked.{cut, cut_also, cut_news, cut_source, cut_splice};
 ghost use Rattle.commits.specs.News.{clamped, within as inside};
 
-use commands::{Source, Splice, Update, stand_size};
+use commands::{Update, stand_size};
+use journal::{Also, Numbers, Source, Splice};
 use memory::{Kept, Registers};
 
 /// A page has 32 bits for each number.
 const LIMIT: u64 = 4_294_967_296;
-
-/// What a commit says besides the numbers of the text.
-#[derive(Clone, Copy)]
-pub enum Also {
-    Nothing,
-    /// The weight of a stand, behind those that there are.
-    Push(u64),
-    /// A file in a place of the table, under the name that the command has.
-    Store { slot: u64, lines: u64, weight: u64 },
-}
-
-/// The small state that a commit sets.
-#[derive(Clone, Copy)]
-pub struct News {
-    pub count: u64,
-    pub current: u64,
-    pub weight: u64,
-    pub also: Also,
-}
 
 /// What copies of lines weigh: of those of a file, or of those walked over.
 fn copied_weight(update: Update, went: u64, size: u64) -> u64
@@ -61,10 +43,10 @@ fn came_weight(registers: &Registers, memory: &[u64]) -> u64
 }
 
 /// The small state with the same text, and a current line.
-fn same_text(kept: Kept, current: u64) -> News
+fn same_text(kept: Kept, current: u64) -> Numbers<u64>
     ensures { (name : List ℕ) → news_of result name ≡ news kept.count current kept.weight nothing_else }
 {
-    News {
+    Numbers {
         count: kept.count,
         current,
         weight: kept.weight,
@@ -73,7 +55,7 @@ fn same_text(kept: Kept, current: u64) -> News
 }
 
 /// The small state after a command.
-pub fn news_of(registers: &Registers, memory: &[u64]) -> News
+pub fn news_of(registers: &Registers, memory: &[u64]) -> Numbers<u64>
     requires { (length memory.now ≡ 262144) × (Loose registers.now) }
     ensures { news_of result (name_of registers.now.job.name memory.now) ≡ news_then (house_of registers.now memory.now) }
 {
@@ -84,13 +66,13 @@ pub fn news_of(registers: &Registers, memory: &[u64]) -> News
     match plan.update {
         Update::Nothing => same_text(kept, kept.current),
         Update::Current => same_text(kept, plan.current),
-        Update::Text => News {
+        Update::Text => Numbers {
             count: plan.count,
             current: plan.current,
             weight: kept.weight.saturating_sub(went) + came,
             also: Also::Push(stand_size(kept.count, plan.span, went, plan.came)),
         },
-        Update::File(slot) => News {
+        Update::File(slot) => Numbers {
             count: kept.count,
             current: kept.current,
             weight: kept.weight,
@@ -110,17 +92,17 @@ fn low(n: u64) -> u32
     (n % LIMIT) as u32
 }
 
-fn cut_also(also: Also) -> records::Also
+fn cut_also(also: Also<u64>) -> Also<u32>
     ensures { (name : List ℕ) → also_of result name ≡ cut_also (also_of also name) }
 {
     match also {
-        Also::Nothing => records::Also::Nothing,
-        Also::Push(weight) => records::Also::Push(low(weight)),
+        Also::Nothing => Also::Nothing,
+        Also::Push(weight) => Also::Push(low(weight)),
         Also::Store {
             slot,
             lines,
             weight,
-        } => records::Also::Store {
+        } => Also::Store {
             slot: low(slot),
             lines: low(lines),
             weight: low(weight),
@@ -129,10 +111,10 @@ fn cut_also(also: Also) -> records::Also
 }
 
 /// The numbers as a page has them.
-pub fn numbers(news: News) -> records::Numbers
+pub fn numbers(news: Numbers<u64>) -> Numbers<u32>
     ensures { (name : List ℕ) → news_of result name ≡ cut_news (news_of news name) }
 {
-    records::Numbers {
+    Numbers {
         count: low(news.count),
         current: low(news.current),
         weight: low(news.weight),
@@ -140,13 +122,13 @@ pub fn numbers(news: News) -> records::Numbers
     }
 }
 
-fn cut_source(source: Source) -> records::Source
+fn cut_source(source: Source<u64>) -> Source<u32>
     ensures { source_of result ≡ cut_source (source_of source) }
 {
     match source {
-        Source::Nothing => records::Source::Nothing,
-        Source::New => records::Source::New,
-        Source::Copied { from, to } => records::Source::Copied {
+        Source::Nothing => Source::Nothing,
+        Source::New => Source::New,
+        Source::Copied { from, to } => Source::Copied {
             from: low(from),
             to: low(to),
         },
@@ -154,10 +136,10 @@ fn cut_source(source: Source) -> records::Source
 }
 
 /// The splice as a page has it.
-pub fn splice(splice: Splice) -> records::Splice
+pub fn splice(splice: Splice<u64>) -> Splice<u32>
     ensures { splice_of result ≡ cut_splice (splice_of splice) }
 {
-    records::Splice {
+    Splice {
         from: low(splice.from),
         gone: low(splice.gone),
         source: cut_source(splice.source),
@@ -165,19 +147,19 @@ pub fn splice(splice: Splice) -> records::Splice
 }
 
 /// What of the source is in a directory of so many entries.
-fn within(source: Source, entries: u64) -> records::Source
+fn within(source: Source<u64>, entries: u64) -> Source<u32>
     requires { entries ≤ 524289 }
     ensures { source_of result ≡ inside entries (source_of source) }
 {
     match source {
-        Source::Nothing => records::Source::Nothing,
-        Source::New => records::Source::New,
+        Source::Nothing => Source::Nothing,
+        Source::New => Source::New,
         Source::Copied { from, to } => {
             let to = to.min(entries);
             if from >= to {
-                return records::Source::Nothing;
+                return Source::Nothing;
             }
-            records::Source::Copied {
+            Source::Copied {
                 from: from as u32,
                 to: to as u32,
             }
@@ -186,13 +168,13 @@ fn within(source: Source, entries: u64) -> records::Source
 }
 
 /// The splice inside a directory of so many entries, which does the same.
-pub fn clamp(splice: Splice, entries: u64) -> records::Splice
+pub fn clamp(splice: Splice<u64>, entries: u64) -> Splice<u32>
     requires { entries ≤ 524289 }
     ensures { splice_of result ≡ clamped entries (splice_of splice) }
 {
     let from = splice.from.min(entries);
     let gone = splice.gone.min(entries - from);
-    records::Splice {
+    Splice {
         from: from as u32,
         gone: gone as u32,
         source: within(splice.source, entries),

@@ -1,4 +1,5 @@
 //! What a commit says, in numbers of a width of their own: as a page has them, or as sums are made of them.
+ghost use Rattle.std.specs.Prelude.{◌≡◌};
 
 /// What comes in place of the entries of the directory that a splice takes out.
 #[derive(Clone, Copy)]
@@ -35,4 +36,31 @@ pub struct Numbers<N> {
     pub current: N,
     pub weight: N,
     pub also: Also<N>,
+}
+
+impl From<Source<u32>> for Source<u64> {
+    ghost from_gives = { λ narrow wide. wide ≡ narrow };
+
+    fn from(source: Source<u32>) -> Self {
+        match source {
+            Source::Nothing => Source::Nothing,
+            Source::New => Source::New,
+            Source::Copied { from, to } => Source::Copied {
+                from: u64::from(from),
+                to: u64::from(to),
+            },
+        }
+    }
+}
+
+impl From<Splice<u32>> for Splice<u64> {
+    ghost from_gives = { λ narrow wide. wide ≡ narrow };
+
+    fn from(splice: Splice<u32>) -> Self {
+        Splice {
+            from: u64::from(splice.from),
+            gone: u64::from(splice.gone),
+            source: Source::from(splice.source),
+        }
+    }
 }
