@@ -38,10 +38,10 @@ unfolding page_of
 commit-laid c u out out₁ f h =
     laid-over (page_of (commit c u)) out out₁ (let l = length-closed 458 (name_in u) (omega arith) in omega (arith, l)) h
 
-pub name_few : (n : Numbers) (cells : List ℕ) → length cells ≤ 64 → length (name_in (news_of n (low_bytes cells))) ≤ 64
+pub name_few : (n : Numbers ℕ) (cells : List ℕ) → length cells ≤ 64 → length (name_in (news_of n (low_bytes cells))) ≤ 64
 name_few n cells h = by n.also
   where
-    by : (a : Also) → length (entry_in (also_of a (low_bytes cells))).name ≤ 64
+    by : (a : Also ℕ) → length (entry_in (also_of a (low_bytes cells))).name ≤ 64
     by also.Nothing = omega arith
     by (also.Push w) = omega arith
     by (also.Store s l w) = simp length-map h

@@ -6,8 +6,9 @@ ghost use Rattle.commits.specs.Acts.{Says};
 ghost use Rattle.commits.specs.Bounds.{Loose};
 ghost use Rattle.compaction.specs.Carry.{go_on as GoingOn, carry_entry as entry_carried, carry as carried_on, carry_piece as piece_carried, after_carry as carried_after};
 
-use commits::{Told, end_done, start_pass};
+use commits::{end_done, start_pass};
 use memory::{Carrying, Phase, Position, Registers, records_of};
+use protocol::Told;
 use records::copy_line;
 
 /// Enough is carried: nothing more is done when power came, else what the command brings is put on.

@@ -14,9 +14,10 @@ ghost use Rattle.compaction.specs.Carry.{begin_other as other_begun, put_other a
 ghost use Rattle.compaction.specs.Laid.{laid};
 
 use crate::entries::{carry, go_on};
-use commits::Told;
+use journal::{Also, Numbers, Source, Splice};
 use memory::{Carrying, Kept, Phase, Registers, Tapes, file_at, file_name, weight_at};
-use records::{Also, Numbers, Source, Splice, encode_commit, encode_head};
+use protocol::Told;
+use records::{encode_commit, encode_head};
 
 /// The other tape begins anew; then up to `quota` entries are carried.
 pub fn begin_other(registers: &mut Registers, quota: u64, waking: bool) -> Told
@@ -67,7 +68,7 @@ pub fn put_head(registers: &mut Registers, out: &mut [u8]) -> Told
 }
 
 /// A commit that sets the small state alone, with the name of a file.
-fn encode_numbers(out: &mut [u8], numbers: Numbers, name: &[u64])
+fn encode_numbers(out: &mut [u8], numbers: Numbers<u32>, name: &[u64])
     requires { (512 ≤ length out.old) × (length name.now ≤ 64) }
     ensures { out.new ≡ laid (page_of (set_up (news_of numbers (low_bytes name.now)))) out.old }
 {
@@ -80,7 +81,7 @@ fn encode_numbers(out: &mut [u8], numbers: Numbers, name: &[u64])
 }
 
 /// One that sets nothing but a weight of the ring, or a file.
-fn encode_also(out: &mut [u8], also: Also, name: &[u64])
+fn encode_also(out: &mut [u8], also: Also<u32>, name: &[u64])
     requires { (512 ≤ length out.old) × (length name.now ≤ 64) }
     ensures { out.new ≡ laid (page_of (set_up (news 0 0 0 (also_of also (low_bytes name.now))))) out.old }
 {

@@ -7,7 +7,9 @@ use Rattle.plain.specs.Command.{lines_of}
 use Rattle.typed.specs.declared.given.Lines as typed_lines
 use Rattle.typed.specs.declared.deeds.Deed.{Deed}
 use Rattle.typed.specs.declared.deeds.Deed.TheVariants as deed
-use Rattle.typed.specs.Meaning.{lines_in, deed_of}
+use Rattle.typed.specs.Meaning.{text_lines, lines_in, deed_of}
+use Rattle.std.specs.Option.{unwrap_or}
+use Rattle.std.proofs.Common.{Some, None, Option, ◌⊎◌, inl, inr}
 use Rattle.commands.specs.Code.{walk_as, update_as, rows_as, plan_as}
 use Rattle.journal.specs.Values.{source_of}
 use Rattle.commands.specs.Turn.{lines_given, name_given}
@@ -47,11 +49,32 @@ joined_back l (c ∷ cs) = by (eqb c 10) refl (joined_back [] cs) (joined_back (
     by true e f g = with_more l (lines_of [] cs) (lines_some [] cs) ∙ ap (λ t. l ++ 10 ∷ t) f ∙ ap (λ n. l ++ n ∷ cs) (sym (eqb-true c 10 e))
     by false e f g = g ∙ append_assoc l (c ∷ []) cs
 
-pub text-back : (ls : typed_lines.Lines) (t : Bor (List ℕ)) → ls ≡ typed_lines.TheVariants.Text t → t.now ≡ with_newlines (lines_in ls)
-text-back ls t e = sym (joined_back [] t.now) ∙ ap (λ x. with_newlines (lines_in x)) (sym e)
+pub text-back : (ls : typed_lines.Lines) (none : Bor (List ℕ)) → none.now ≡ [] → (unwrap_or ls.text none).now ≡ with_newlines (lines_in ls)
+text-back ls none e = by ls.text
+  where
+    by : (o : Option (Bor (List ℕ))) → (unwrap_or o none).now ≡ with_newlines (text_lines o)
+    by None = e
+    by (Some t) = sym (joined_back [] t.now)
 
-pub kind-given : (ls : typed_lines.Lines) (t : Bor (List ℕ)) → ls ≡ typed_lines.TheVariants.Text t → Given ≡ lines_kind (lines_in ls)
-kind-given ls t e = ap (λ b. pick b Nothing Given) (sym (lines_some [] t.now)) ∙ ap (λ x. lines_kind (lines_in x)) (sym e)
+pub kind-given : (ls : typed_lines.Lines) (t : Bor (List ℕ)) → ls.text ≡ Some t → Given ≡ lines_kind (lines_in ls)
+kind-given ls t e = ap (λ b. pick b Nothing Given) (sym (lines_some [] t.now)) ∙ ap (λ o. lines_kind (text_lines o)) (sym e)
+
+-- DEEDS that give lines, or name a file
+pub lines_of_deed : (d : Deed) (ls : typed_lines.Lines) → (d ≡ deed.Append ls) ⊎ ((d ≡ deed.Insert ls) ⊎ (d ≡ deed.Change ls)) → lines_in ls ≡ lines_given (deed_of d)
+unfolding lines_given
+lines_of_deed d ls is =
+    elim is [
+      | inl e ↦ ap (λ x. lines_given (deed_of x)) (sym e)
+      | inr e ↦ elim e [ inl f ↦ ap (λ x. lines_given (deed_of x)) (sym f) | inr f ↦ ap (λ x. lines_given (deed_of x)) (sym f) ]
+    ]
+
+pub name_of_deed : (d : Deed) (n : Bor (List ℕ)) → (d ≡ deed.Write n) ⊎ ((d ≡ deed.Edit n) ⊎ (d ≡ deed.Read n)) → n.now ≡ name_given (deed_of d)
+unfolding name_given
+name_of_deed d n is =
+    elim is [
+      | inl e ↦ ap (λ x. name_given (deed_of x)) (sym e)
+      | inr e ↦ elim e [ inl f ↦ ap (λ x. name_given (deed_of x)) (sym f) | inr f ↦ ap (λ x. name_given (deed_of x)) (sym f) ]
+    ]
 
 -- DEEDS that give nothing
 pub no_name : (d : Deed) → ((n : Bor (List ℕ)) → d ≡ deed.Write n → ⊥) → ((n : Bor (List ℕ)) → d ≡ deed.Edit n → ⊥) → ((n : Bor (List ℕ)) → d ≡ deed.Read n → ⊥)
@@ -119,7 +142,7 @@ rows_back rows.Nothing = refl
 rows_back (rows.Number n) = refl
 rows_back rows.Files = refl
 
-source-back : (s : Source) → source_code (source_of s) ≡ s
+source-back : (s : Source ℕ) → source_code (source_of s) ≡ s
 source-back source.Nothing = refl
 source-back source.New = refl
 source-back (source.Copied a b) = refl

@@ -35,12 +35,12 @@ record SaidLight (u : small.News) : Type 0 where
   weight : Light u.weight
   also : SaidAlso u.also
 
-also_light : (a : Also) (name : List ℕ) → SaidAlso (also_of a name) → AlsoLight a
+also_light : (a : Also ℕ) (name : List ℕ) → SaidAlso (also_of a name) → AlsoLight a
 also_light Nothing name l = tt
 also_light (Push w) name l = l
 also_light (Store i n w) name l = l
 
-said-back : (n : News) (name : List ℕ) → SaidLight (news_of n name) → NewsLight n
+said-back : (n : Numbers ℕ) (name : List ℕ) → SaidLight (news_of n name) → NewsLight n
 said-back n name l = record { weight = l.weight; also = also_light n.also name l.also }
 
 -- LINES
@@ -97,5 +97,5 @@ said_few r m l h =
     (came_few p.splice.source p.update (job_lines r.job.lines (text_of r.job.text m)) r.walking.went r.job.size 1099511627776 (omega arith) l.went l.size)
     l.plan.upto
 
-pub news_light : (n : News) (name : List ℕ) (r : Registers) (m : List ℕ) → Loose r → length m ≡ 262144 → news_of n name ≡ machine.news_of (house_of r m) → NewsLight n
+pub news_light : (n : Numbers ℕ) (name : List ℕ) (r : Registers) (m : List ℕ) → Loose r → length m ≡ 262144 → news_of n name ≡ machine.news_of (house_of r m) → NewsLight n
 news_light n name r m l h e = said-back n name (subst (λ u. SaidLight u) (sym e) (said_few r m l h))

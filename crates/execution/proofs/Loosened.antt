@@ -29,7 +29,7 @@ wide_rows rows.Nothing h = tt
 wide_rows (rows.Number n) h = omega arith
 wide_rows rows.Files h = tt
 
-wide_source : (u : Source) → TameSource u → WideSource u
+wide_source : (u : Source ℕ) → TameSource u → WideSource u
 wide_source source.Nothing h = tt
 wide_source source.New h = tt
 wide_source (source.Copied a b) h = (omega (arith, h.0), omega (arith, h.1))

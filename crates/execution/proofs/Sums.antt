@@ -38,7 +38,7 @@ oldest_less r =
     ]
 
 -- what a push makes of the sum
-pub ring-then : (also : Also) (pushed w old : ℕ) (r : List ℕ) → also ≡ Push pushed → w ≡ sum r → old ≡ oldest r
+pub ring-then : (also : Also ℕ) (pushed w old : ℕ) (r : List ℕ) → also ≡ Push pushed → w ≡ sum r → old ≡ oldest r
     → (name : List ℕ) → w - old + pushed ≡ sum (ring_by (also_of also name) r)
 ring-then also p w old r e ew eo name =
     let a = sum-pushed r p in
@@ -46,7 +46,7 @@ ring-then also p w old r e ew eo name =
     let q : w - old + p ≡ sum (ring_by (also_of (Push p) name) r) = omega (arith, a, b, ew, eo) in
     q ∙ ap (λ x. sum (ring_by (also_of x name) r)) (sym e)
 
-pub push_light : (also : Also) (pushed : ℕ) → also ≡ Push pushed → AlsoLight also → Light pushed
+pub push_light : (also : Also ℕ) (pushed : ℕ) → also ≡ Push pushed → AlsoLight also → Light pushed
 push_light also p e l = subst AlsoLight e l
 
 -- THE TABLE
@@ -64,7 +64,7 @@ slot_less f (suc i) [] = omega arith
 slot_less f (suc i) (x ∷ es) = let r = slot_less f i es in omega arith
 
 -- what a file in its place makes of the sum
-pub files-then : (also : Also) (slot lines size w old name : ℕ) (es : List Entry) → also ≡ Store slot lines size → w ≡ added_up entry_size es
+pub files-then : (also : Also ℕ) (slot lines size w old name : ℕ) (es : List Entry) → also ≡ Store slot lines size → w ≡ added_up entry_size es
     → old ≡ added_up entry_size (take 1 (drop slot es)) → (bs : List ℕ) → length bs ≡ name
     → w - old + (128 + name + size) ≡ added_up entry_size (files_by (also_of also bs) es)
 files-then also slot lines size w old name es e ew eo bs n =
@@ -73,7 +73,7 @@ files-then also slot lines size w old name es e ew eo bs n =
     let q : w - old + (128 + name + size) ≡ added_up entry_size (files_by (also_of (Store slot lines size) bs) es) = omega (arith, a, b, ew, eo, n) in
     q ∙ ap (λ x. added_up entry_size (files_by (also_of x bs) es)) (sym e)
 
-pub store_light : (also : Also) (slot lines size : ℕ) → also ≡ Store slot lines size → AlsoLight also → Light size
+pub store_light : (also : Also ℕ) (slot lines size : ℕ) → also ≡ Store slot lines size → AlsoLight also → Light size
 store_light also slot lines size e l = subst AlsoLight e l
 
 -- THE FILE IN A PLACE

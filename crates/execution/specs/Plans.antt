@@ -33,7 +33,7 @@ rows_code plan.no_row = rows.Nothing
 rows_code (plan.a_number n) = rows.Number n
 rows_code plan.all_files = rows.Files
 
-abbrev pub source_code : log.Source → Source
+abbrev pub source_code : log.Source → Source ℕ
 source_code log.no_entries = source.Nothing
 source_code log.new_entries = source.New
 source_code (log.copied a b) = source.Copied a b

@@ -8,11 +8,11 @@ use Rattle.journal.specs.declared.commit.Also.TheVariants.{Nothing, Push, Store}
 abbrev pub Light : ℕ → Type 0
 Light n = n < 1125899906842624
 
-abbrev pub AlsoLight : Also → Type 0
+abbrev pub AlsoLight : Also ℕ → Type 0
 AlsoLight Nothing = Unit {0}
 AlsoLight (Push weight) = Light weight
 AlsoLight (Store slot lines weight) = Light weight
 
-pub record NewsLight (n : News) : Type 0 where
+pub record NewsLight (n : Numbers ℕ) : Type 0 where
   pub weight : Light n.weight
   pub also : AlsoLight n.also

@@ -15,8 +15,9 @@ ghost use Rattle.execution.specs.Plans.{with_newlines, lines_kind};
 
 use crate::walk::{walk_on, walks};
 use commands::{Plan, Refusal, Sizes, Update, plan_command};
-use commits::{Told, finish, refuse};
+use commits::{finish, refuse};
 use memory::{Job, Lines, Putting, Registers, Walking};
+use protocol::Told;
 use typed::{Command, Deed, Simple};
 
 /// The name of a file that a deed has, if it has one.
@@ -24,9 +25,7 @@ fn name_given<'a>(deed: Deed<'a>) -> &'a [u8]
     ensures { result.now ≡ name_typed (deed_of deed.entry) }
 {
     match deed {
-        Deed::Write(name) => name,
-        Deed::Edit(name) => name,
-        Deed::Read(name) => name,
+        Deed::Write(name) | Deed::Edit(name) | Deed::Read(name) => name,
         _ => &[],
     }
 }
@@ -36,10 +35,8 @@ fn lines_given<'a>(deed: Deed<'a>) -> typed::Lines<'a>
     ensures { lines_in result ≡ lines_typed (deed_of deed.entry) }
 {
     match deed {
-        Deed::Append(lines) => lines,
-        Deed::Insert(lines) => lines,
-        Deed::Change(lines) => lines,
-        _ => typed::Lines::Empty,
+        Deed::Append(lines) | Deed::Insert(lines) | Deed::Change(lines) => lines,
+        _ => typed::Lines { text: None },
     }
 }
 
@@ -47,19 +44,16 @@ fn lines_given<'a>(deed: Deed<'a>) -> typed::Lines<'a>
 fn text_given<'a>(lines: typed::Lines<'a>) -> &'a [u8]
     ensures { result.now ≡ with_newlines (lines_in lines.entry) }
 {
-    match lines {
-        typed::Lines::Empty => &[],
-        typed::Lines::Text(text) => text,
-    }
+    lines.text.unwrap_or(&[])
 }
 
 /// Whether there are any.
 fn kind_given(lines: typed::Lines<'_>) -> Lines
     ensures { result ≡ lines_kind (lines_in lines.entry) }
 {
-    match lines {
-        typed::Lines::Empty => Lines::Nothing,
-        typed::Lines::Text(_) => Lines::Given,
+    match lines.text {
+        None => Lines::Nothing,
+        Some(_) => Lines::Given,
     }
 }
 
@@ -70,11 +64,7 @@ fn keep_text(memory: &mut [u64], text: &[u8]) -> u64
     ensures memory { memory.new ≡ extended 0 text.now memory.old }
     ensures long { length memory.new ≡ 262144 }
 {
-    if memory::keep(memory, text) {
-        text.len() as u64
-    } else {
-        0
-    }
+    memory::keep(memory, text).unwrap_or(0)
 }
 
 /// The name of a file is kept, and how many bytes it has there.
@@ -84,11 +74,7 @@ fn keep_name(memory: &mut [u64], name: &[u8]) -> u64
     ensures memory { memory.new ≡ name_kept name.now memory.old }
     ensures long { length memory.new ≡ 262144 }
 {
-    if memory::keep_name(memory, name) {
-        name.len() as u64
-    } else {
-        0
-    }
+    memory::keep_name(memory, name).unwrap_or(0)
 }
 
 /// What goes without a walk: nothing, or the whole text.

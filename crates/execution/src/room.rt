@@ -15,10 +15,12 @@ ghost use Rattle.commits.specs.Setters.{carrying as carries};
 ghost use Rattle.execution.specs.Room.{AlsoLight, NewsLight};
 ghost use Rattle.execution.specs.Walk.{need as needed, job_size as sized, quota_of as quotas, prepare as prepares, weigh as weighs};
 
-use commands::{Refusal, Source};
-use commits::{Also, News, Told, news_of, refuse, start_pass};
+use commands::Refusal;
+use commits::{news_of, refuse, start_pass};
 use compaction::{begin_other, carry};
+use journal::{Also, Numbers, Source};
 use memory::{Carrying, Kept, Registers};
+use protocol::Told;
 
 /// What a file weighs by itself.
 const FILE: u64 = 128;
@@ -58,7 +60,7 @@ fn quota(registers: &Registers) -> u64
 }
 
 /// What all stands weigh after a commit.
-fn ring_after(memory: &[u64], ring: u64, also: Also) -> u64
+fn ring_after(memory: &[u64], ring: u64, also: Also<u64>) -> u64
     requires { (length memory.now ≡ 262144) × ((ring ≤ 64) × (AlsoLight also)) }
     ensures total { (name : List ℕ) → result ≡ summed (ring_by (also_of also name) (ring_of ring memory.now)) }
     ensures few { result ≤ 1126174784749568 }
@@ -83,7 +85,7 @@ fn weight_at(memory: &[u64], files: u64, slot: u64) -> u64
 }
 
 /// What all files weigh after a commit, by the length of the name that the command has.
-fn files_after(memory: &[u64], files: u64, also: Also, name: u64) -> u64
+fn files_after(memory: &[u64], files: u64, also: Also<u64>, name: u64) -> u64
     requires { (length memory.now ≡ 262144) × ((files ≤ 64) × ((AlsoLight also) × (name ≤ 64))) }
     ensures total { (bs : List ℕ) → length bs ≡ name → result ≡ added_up entry_size (files_by (also_of also bs) (files_of files memory.now)) }
     ensures few { result ≤ 1126174784764928 }
@@ -100,7 +102,7 @@ fn files_after(memory: &[u64], files: u64, also: Also, name: u64) -> u64
 }
 
 /// What all that is kept weighs after a commit.
-fn weight_after(memory: &[u64], kept: Kept, news: News, name: u64) -> u64
+fn weight_after(memory: &[u64], kept: Kept, news: Numbers<u64>, name: u64) -> u64
     requires { (length memory.now ≡ 262144) × ((TameKept kept) × ((NewsLight news) × (name ≤ 64))) }
     ensures { (bs : List ℕ) → length bs ≡ name → result ≡ smalls_weight (updated (news_of news bs) (small_of kept memory.now)) }
 {

@@ -15,8 +15,9 @@ ghost use Rattle.execution.specs.Walk.{fetch as fetches, lines_then, walk_on as 
 
 use crate::room::weigh;
 use commands::{Refusal, Walk};
-use commits::{Told, put_number, refuse};
+use commits::{put_number, refuse};
 use memory::{Job, Lines, Phase, Registers, Walking};
+use protocol::Told;
 use records::Piece;
 
 /// What a line weighs besides its bytes.
@@ -47,10 +48,7 @@ fn fetch(registers: &mut Registers, memory: &[u64]) -> Told
 pub(crate) fn walks(walk: Walk) -> bool
     ensures { result ≡ walking_at (walk_as walk) }
 {
-    match walk {
-        Walk::Skip => false,
-        Walk::Show | Walk::ShowNumbered | Walk::Measure | Walk::Join => true,
-    }
+    !matches!(walk, Walk::Skip)
 }
 
 /// Whether a line is left to look at.
@@ -68,11 +66,9 @@ fn job_then(registers: &Registers) -> Job
     match job.plan.walk {
         Walk::Skip | Walk::Show | Walk::ShowNumbered | Walk::Measure => job,
         Walk::Join => Job {
-            plan: job.plan,
-            name: job.name,
-            size: job.size,
             lines: Lines::Joined,
             text: registers.walking.bytes,
+            ..job
         },
     }
 }
@@ -110,11 +106,7 @@ fn append(memory: &mut [u64], at: u64, bytes: &[u8]) -> u64
     ensures memory { memory.new ≡ extended at bytes.now memory.old }
     ensures long { length memory.new ≡ 262144 }
 {
-    if memory::extend(memory, at, bytes) {
-        at + bytes.len() as u64
-    } else {
-        at
-    }
+    memory::extend(memory, at, bytes).unwrap_or(at)
 }
 
 /// Whether the line has more records.

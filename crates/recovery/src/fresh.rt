@@ -5,8 +5,8 @@ ghost use Rattle.commits.specs.Acts.{Says};
 ghost use Rattle.recovery.specs.Wake.{fresh_first as BegunFirst, fresh_next as begun_next};
 
 use crate::heads::{nothing_kept, one_tape};
-use commits::Told;
 use memory::{Phase, Registers};
+use protocol::Told;
 use records::encode_head;
 
 /// Its head, of generation 1 and without entries.

@@ -9,10 +9,10 @@ ghost use Rattle.commits.specs.Acts.{Says};
 ghost use Rattle.commits.specs.Setters.{tapes, in_phase, with_tapes};
 ghost use Rattle.recovery.specs.Wake.{no_plan, nothing_kept, wake as woken, woke_first as woken_first, woke_second as woken_second};
 
-use commands::{Plan, Rows, Source, Span, Splice, Update, Walk};
-use commits::Told;
-use journal::{Tape, counting};
+use commands::{Plan, Rows, Span, Update, Walk};
+use journal::{Source, Splice, Tape, counting};
 use memory::{Carrying, Job, Kept, Lines, Phase, Putting, Registers, Tapes, Walking};
+use protocol::Told;
 use records::{Record, decode_checked};
 
 /// What is kept when nothing was said yet.
@@ -110,10 +110,7 @@ fn head_generation(read: &[u8]) -> u32
 {
     match decode_checked(read) {
         Record::Head { generation, .. } => generation,
-        Record::Line(_) => 0,
-        Record::Copy { .. } => 0,
-        Record::Commit { .. } => 0,
-        Record::Broken => 0,
+        Record::Line(_) | Record::Copy { .. } | Record::Commit { .. } | Record::Broken => 0,
     }
 }
 

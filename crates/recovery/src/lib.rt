@@ -1,7 +1,6 @@
 //! Power comes: which tape counts, and what its records say.
 #![tactic(auto)]
 
-mod clamp;
 mod fresh;
 mod heads;
 mod replay;

@@ -8,11 +8,12 @@ ghost use Rattle.commits.specs.Acts.{Says};
 ghost use Rattle.commits.specs.Setters.{with_used, with_tapes, with_kept};
 ghost use Rattle.recovery.specs.Wake.{here as HereOf, kept_with, memory_with, replay_record as record_replayed};
 
-use crate::clamp::{clamp_record, lesser};
-use commits::Told;
+use commits::clamp;
 use compaction::begin_other;
+use journal::{Numbers, Splice};
 use memory::{Position, Registers};
-use records::{Numbers, Record, Splice, decode_checked};
+use protocol::Told;
+use records::{Record, decode_checked};
 
 /// How many entries the directory has at most.
 const ENTRIES: u32 = 524_289;
@@ -36,7 +37,7 @@ fn replay_head(registers: &mut Registers, memory: &mut [u64], entries: u32)
     ensures memory { (g : ℕ) → memory.new ≡ memory_with (a_head g entries) registers.old memory.old }
 {
     memory::clear(memory);
-    registers.kept.entries = lesser(entries, ENTRIES) as u64;
+    registers.kept.entries = entries.min(ENTRIES) as u64;
     registers.kept.pending = 0;
 }
 
@@ -50,9 +51,9 @@ fn replay_line(registers: &mut Registers, memory: &mut [u64], part: u8)
         return;
     }
     let pending = registers.kept.pending;
-    if memory::push_pending(memory, pending, here(registers)) {
-        registers.kept.pending = pending + 1;
-    }
+    registers.kept.pending = memory::push_pending(memory, pending, here(registers)).unwrap_or(
+        pending,
+    );
 }
 
 /// A copy's first record is where the entry lies.
@@ -69,8 +70,8 @@ fn replay_copy(registers: &Registers, memory: &mut [u64], index: u32, part: u8)
 fn replay_commit(
     registers: &mut Registers,
     memory: &mut [u64],
-    splice: Splice,
-    numbers: Numbers,
+    splice: Splice<u32>,
+    numbers: Numbers<u32>,
     name: &[u8],
 )
     requires { (length memory.old ≡ 262144) × (registers.old.kept.entries ≤ 524289) }
@@ -78,7 +79,7 @@ fn replay_commit(
     ensures memory { memory.new ≡ memory_with (a_commit (splice_of splice) (news_of numbers name.now)) registers.old memory.old }
 {
     let kept = registers.kept;
-    let splice = clamp_record(splice, kept.entries);
+    let splice = clamp(Splice::from(splice), kept.entries);
     registers.kept = memory::apply(memory, kept, splice, numbers, name).unwrap_or(kept);
 }
 

@@ -1,5 +1,5 @@
 use Rattle.execution.proofs.Given.{kind-given}
 use Rattle.execution.proofs.command.kind_given.Goals as goal
 
-pub returns-in-Text : goal.returns-in-Text
-returns-in-Text c = kind-given c.args.lines c.in-Text.field-0 c.in-Text.is
+pub returns-in-Some : goal.returns-in-Some
+returns-in-Some c = kind-given c.args.lines c.in-Some.field-0 c.in-Some.is
