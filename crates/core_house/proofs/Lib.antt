@@ -1,4 +1,3 @@
-pub mod Eight
 pub mod Tamed
 pub mod Answers
 pub mod Right

@@ -1,18 +1,25 @@
-use Rattle.std.proofs.Common.{inl, inr}
+use Rattle.std.proofs.Common.{subst, inl, inr}
+use Rattle.protocol.specs.Stepping.{StepSays, step_fits}
+use Rattle.protocol.proofs.Numbered.{kind-low}
+use Rattle.protocol.proofs.Stepping.{refuses}
+use Rattle.house.specs.Entry.{own}
+use Rattle.house.proofs.Steps.{own-long, steps}
 use Rattle.house.proofs.step.Goals as goal
-use Rattle.house.proofs.step.Goals.{then-memory-ne-MEMORY-via-then-memory-ne-MEMORY, then-memory-ne-MEMORY-via-else-memory-ne-MEMORY+then-kind-gt-LAST_KIND, then-memory-ne-MEMORY-via-else-memory-ne-MEMORY+else-kind-gt-LAST_KIND+then-out-lt-ROW}
-use Rattle.house.proofs.Steps.{refuses, steps}
+use Rattle.house.proofs.step.Goals.{then-memory-ne-MEMORY-via-then-memory-ne-MEMORY, then-memory-ne-MEMORY-via-else-memory-ne-MEMORY+then-out-lt-ROW}
+
+pub returns-in_default : goal.returns-in_default
+returns-in_default c = refuses own own-long c.args.memory.now c.args.kind c.args.bytes.now c.args.out.now (inr (inl c.in_default.ensures.1))
 
 pub returns-then-memory-ne-MEMORY : goal.returns-then-memory-ne-MEMORY
 returns-then-memory-ne-MEMORY c =
-    refuses _ _ _ _
+    refuses own own-long c.args.memory.now c.args.kind c.args.bytes.now c.args.out.now
     (elim c.then-memory-ne-MEMORY.branch [
       | then-memory-ne-MEMORY-via-then-memory-ne-MEMORY w ↦ inl w.if-memory-ne-MEMORY.true
-      | then-memory-ne-MEMORY-via-else-memory-ne-MEMORY+then-kind-gt-LAST_KIND w ↦ inr (inl w.if-kind-gt-LAST_KIND.true)
-      | then-memory-ne-MEMORY-via-else-memory-ne-MEMORY+else-kind-gt-LAST_KIND+then-out-lt-ROW w ↦ inr (inr w.if-out-lt-ROW.true)
+      | then-memory-ne-MEMORY-via-else-memory-ne-MEMORY+then-out-lt-ROW w ↦ inr (inr w.if-out-lt-ROW.true)
     ])
 
 pub returns : goal.returns
 returns c =
-    steps c.args.memory.now c.args.kind c.args.bytes.now c.args.out.now c.load-registers.result c.answer-told.new.registers c.answer-told.result c.store.new.memory
-    c.if-memory-ne-MEMORY.false c.if-kind-gt-LAST_KIND.false c.if-out-lt-ROW.false c.load-registers.ensures c.answer-told.ensures c.store.ensures
+    subst (λ k. StepSays own c.args.memory.now k c.args.bytes.now c.args.out.now (step_fits own c.args.memory.now k c.args.bytes.now c.args.out.now) c.answer-told.result c.store.new.memory c.args.out.now) c.in-Ok.ensures
+    (steps c.args.memory.now _ c.args.bytes.now c.args.out.now c.load-registers.result c.answer-told.new.registers c.answer-told.result c.store.new.memory
+    c.if-memory-ne-MEMORY.false (kind-low c.in-Ok.event) c.if-out-lt-ROW.false c.load-registers.ensures c.answer-told.ensures c.store.ensures)
