@@ -26,7 +26,7 @@ rows_tame rows.Nothing f = tt
 rows_tame (rows.Number n) f = f
 rows_tame rows.Files f = tt
 
-source_tame : (s : Source) → SourceFits (source_of s) → TameSource s
+source_tame : (s : Source ℕ) → SourceFits (source_of s) → TameSource s
 source_tame source.Nothing f = tt
 source_tame source.New f = tt
 source_tame (source.Copied a b) f = f

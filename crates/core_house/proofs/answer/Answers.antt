@@ -1,10 +1,11 @@
+use Rattle.std.proofs.Common.{sym}
 use Rattle.core_house.specs.Machine.{answers}
 use Rattle.protocol.specs.Events.{event_of}
 use Rattle.core_house.proofs.answer.Goals as goal
 
 pub returns-in-Power : goal.returns-in-Power
 unfolding answers event_of
-returns-in-Power c = rw (c.in-Power.is, c.number_of.ensures) at (c.wake.ensures c.args.memory.now c.args.out.now)
+returns-in-Power c = rw (c.in-Power.is, sym c.number_of.ensures) (c.wake.ensures c.args.memory.now c.args.out.now)
 
 pub returns-in-Command : goal.returns-in-Command
 unfolding answers event_of
