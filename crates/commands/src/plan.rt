@@ -7,8 +7,9 @@ ghost use Rattle.journal.specs.Values.{source_of};
 use journal::{Source, Splice};
 
 /// What is done with each line that is walked over.
-#[derive(Clone, Copy)]
+#[derive(Clone, Copy, Default)]
 pub enum Walk {
+    #[default]
     Skip = 0,
     Show = 1,
     ShowNumbered = 2,
@@ -19,8 +20,9 @@ pub enum Walk {
 }
 
 /// What is different afterwards.
-#[derive(Clone, Copy)]
+#[derive(Clone, Copy, Default)]
 pub enum Update {
+    #[default]
     Nothing,
     /// The current line only.
     Current,
@@ -31,8 +33,9 @@ pub enum Update {
 }
 
 /// What is shown besides the lines that are walked over.
-#[derive(Clone, Copy)]
+#[derive(Clone, Copy, Default)]
 pub enum Rows {
+    #[default]
     Nothing,
     Number(u64),
     /// A row for each file.
@@ -40,7 +43,7 @@ pub enum Rows {
 }
 
 /// Lines of the text: those after one, up to another.
-#[derive(Clone, Copy)]
+#[derive(Clone, Copy, Default)]
 pub struct Span {
     pub after: u64,
     pub upto: u64,
@@ -54,7 +57,7 @@ pub(crate) struct Coming {
 }
 
 /// What is done for a command.
-#[derive(Clone, Copy)]
+#[derive(Clone, Copy, Default)]
 pub struct Plan {
     pub walk: Walk,
     /// The lines that are walked over.

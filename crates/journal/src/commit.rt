@@ -2,8 +2,9 @@
 ghost use Rattle.std.specs.Prelude.{◌≡◌};
 
 /// What comes in place of the entries of the directory that a splice takes out.
-#[derive(Clone, Copy)]
+#[derive(Clone, Copy, Default)]
 pub enum Source<N> {
+    #[default]
     Nothing,
     /// The lines put on since the last commit.
     New,
@@ -12,7 +13,7 @@ pub enum Source<N> {
 }
 
 /// A change of the directory: so many entries from an index on go, and others come.
-#[derive(Clone, Copy)]
+#[derive(Clone, Copy, Default)]
 pub struct Splice<N> {
     pub from: N,
     pub gone: N,

@@ -5,7 +5,7 @@ ghost use Rattle.memory.specs.Registers.{carrying_in as loaded, carrying_numbers
 
 use crate::LIMIT;
 
-#[derive(Clone, Copy)]
+#[derive(Clone, Copy, Default)]
 pub struct Carrying {
     pub index: u64,
     /// Which of its records is next.

@@ -9,9 +9,10 @@ use crate::{LIMIT, plans};
 use commands::Plan;
 
 /// What of the text in the cells is put on.
-#[derive(Clone, Copy, PartialEq, Eq)]
+#[derive(Clone, Copy, PartialEq, Eq, Default)]
 pub enum Lines {
     /// None of it.
+    #[default]
     Nothing = 0,
     /// Its lines, between bytes 10.
     Given = 1,
@@ -49,7 +50,7 @@ impl Lines {
     }
 }
 
-#[derive(Clone, Copy)]
+#[derive(Clone, Copy, Default)]
 pub struct Job {
     pub plan: Plan,
     /// How many bytes the name of a file has.

@@ -5,7 +5,7 @@ ghost use Rattle.memory.specs.Registers.{kept_in as loaded, kept_numbers as numb
 
 use crate::LIMIT;
 
-#[derive(Clone, Copy)]
+#[derive(Clone, Copy, Default)]
 pub struct Kept {
     /// How many entries the directory has.
     pub entries: u64,

@@ -3,9 +3,10 @@
 ghost use Rattle.std.specs.Prelude.{◌≡◌};
 ghost use Rattle.memory.specs.Numbers.{phase_of as decoded, phase_number as numbered};
 
-#[derive(Clone, Copy, PartialEq, Eq)]
+#[derive(Clone, Copy, PartialEq, Eq, Default)]
 pub enum Phase {
     /// A command ended.
+    #[default]
     Idle = 0,
     /// The first record of tape 0 was asked for.
     WakeFirst = 1,

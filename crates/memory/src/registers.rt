@@ -5,7 +5,7 @@ ghost use Rattle.memory.specs.Registers.{loaded, stored};
 
 use crate::{Carrying, Job, Kept, Phase, Putting, Tapes, Walking};
 
-#[derive(Clone, Copy)]
+#[derive(Clone, Copy, Default)]
 pub struct Registers {
     pub phase: Phase,
     pub tapes: Tapes,

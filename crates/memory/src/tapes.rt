@@ -5,7 +5,7 @@ ghost use Rattle.memory.specs.Registers.{tapes_in as loaded, tapes_numbers as nu
 
 use crate::LIMIT;
 
-#[derive(Clone, Copy)]
+#[derive(Clone, Copy, Default)]
 pub struct Tapes {
     /// How many records a tape has room for.
     pub room: u64,

@@ -5,7 +5,7 @@ ghost use Rattle.memory.specs.Registers.{walking_in as walked, walking_numbers a
 
 use crate::LIMIT;
 
-#[derive(Clone, Copy)]
+#[derive(Clone, Copy, Default)]
 pub struct Walking {
     /// How many lines are before the next one.
     pub line: u64,
@@ -43,7 +43,7 @@ impl Walking {
     }
 }
 
-#[derive(Clone, Copy)]
+#[derive(Clone, Copy, Default)]
 pub struct Putting {
     /// Whether it is put on the other tape.
     pub second: bool,

@@ -7,11 +7,10 @@ ghost use Rattle.memory.specs.declared.phase.Phase.TheVariants.{Replaying};
 ghost use Rattle.memory.specs.Registers.{Tame};
 ghost use Rattle.commits.specs.Acts.{Says};
 ghost use Rattle.commits.specs.Setters.{tapes, in_phase, with_tapes};
-ghost use Rattle.recovery.specs.Wake.{no_plan, nothing_kept, wake as woken, woke_first as woken_first, woke_second as woken_second};
+ghost use Rattle.recovery.specs.Wake.{nothing_kept, starting, wake as woken, woke_first as woken_first, woke_second as woken_second};
 
-use commands::{Plan, Rows, Span, Update, Walk};
-use journal::{Source, Splice, Tape, counting};
-use memory::{Carrying, Job, Kept, Lines, Phase, Putting, Registers, Tapes, Walking};
+use journal::{Tape, counting};
+use memory::{Kept, Phase, Registers, Tapes};
 use protocol::Told;
 use records::{Record, decode_checked};
 
@@ -19,15 +18,7 @@ use records::{Record, decode_checked};
 pub fn nothing_kept() -> Kept
     ensures { result ≡ nothing_kept }
 {
-    Kept {
-        entries: 0,
-        pending: 0,
-        count: 0,
-        current: 0,
-        weight: 0,
-        ring: 0,
-        files: 0,
-    }
+    Kept::default()
 }
 
 /// A tape that counts, with so many records, while nothing is carried to the other one.
@@ -39,29 +30,18 @@ pub fn one_tape(room: u64, active: u64, generation: u64, used: u64) -> Tapes
         active,
         generation,
         used,
-        busy: false,
-        other: 0,
-        cursor: 0,
+        ..Tapes::default()
     }
 }
 
-/// What is done for no command.
-fn no_plan() -> Plan
-    ensures { result ≡ no_plan }
+/// The registers when power came.
+fn woken_up(room: u64) -> Registers
+    ensures { result ≡ starting room }
 {
-    Plan {
-        walk: Walk::Skip,
-        span: Span { after: 0, upto: 0 },
-        update: Update::Nothing,
-        splice: Splice {
-            from: 0,
-            gone: 0,
-            source: Source::Nothing,
-        },
-        came: 0,
-        count: 0,
-        current: 0,
-        rows: Rows::Nothing,
+    Registers {
+        phase: Phase::WakeFirst,
+        tapes: one_tape(room, 0, 0, 0),
+        ..Registers::default()
     }
 }
 
@@ -69,38 +49,7 @@ fn no_plan() -> Plan
 pub fn wake(registers: &mut Registers, room: u64) -> Told
     ensures { (m out : List ℕ) → Says (woken room m) registers.new m result out out }
 {
-    *registers = Registers {
-        phase: Phase::WakeFirst,
-        tapes: one_tape(room, 0, 0, 0),
-        kept: nothing_kept(),
-        job: Job {
-            plan: no_plan(),
-            name: 0,
-            size: 0,
-            lines: Lines::Nothing,
-            text: 0,
-        },
-        walking: Walking {
-            line: 0,
-            part: 0,
-            went: 0,
-            bytes: 0,
-        },
-        putting: Putting {
-            second: false,
-            more: false,
-            at: 0,
-            part: 0,
-        },
-        carrying: Carrying {
-            index: 0,
-            part: 0,
-            long: 0,
-            start: 0,
-            quota: 0,
-            waking: false,
-        },
-    };
+    *registers = woken_up(room);
     Told::Read(0)
 }
 
