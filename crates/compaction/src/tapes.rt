@@ -1,11 +1,11 @@
 //! The other tape begins, and counts in the end.
 
 ghost use Rattle.std.specs.Prelude.{◌≡◌, ℕ, ◌+◌, ◌<◌, ◌≤◌, List, length, slice_index_or};
-ghost use Rattle.journal.specs.Log.{set_up, next_generation};
+ghost use Rattle.journal.specs.Log.{no_splice, set_up, next_generation};
 ghost use Rattle.journal.specs.Small.{news, set_up_of};
 ghost use Rattle.records.specs.Pages.{page_of};
 ghost use Rattle.records.specs.Values.{low_bytes};
-ghost use Rattle.journal.specs.Values.{also_of, news_of};
+ghost use Rattle.journal.specs.Values.{splice_of, also_of, news_of};
 ghost use Rattle.engine.specs.Machine.{no_news};
 ghost use Rattle.memory.specs.Abstract.{small_of};
 ghost use Rattle.memory.specs.Registers.{TameKept, Tame};
@@ -14,7 +14,7 @@ ghost use Rattle.compaction.specs.Carry.{begin_other as other_begun, put_other a
 ghost use Rattle.compaction.specs.Laid.{laid};
 
 use crate::entries::{carry, go_on};
-use journal::{Also, Numbers, Source, Splice};
+use journal::{Also, Numbers, Splice};
 use memory::{Carrying, Kept, Phase, Registers, Tapes, file_at, file_name, weight_at};
 use protocol::Told;
 use records::{encode_commit, encode_head};
@@ -67,17 +67,19 @@ pub fn put_head(registers: &mut Registers, out: &mut [u8]) -> Told
     put_other(registers)
 }
 
+/// No entry goes, and none comes.
+fn no_splice() -> Splice<u32>
+    ensures { splice_of result ≡ no_splice }
+{
+    Splice::default()
+}
+
 /// A commit that sets the small state alone, with the name of a file.
 fn encode_numbers(out: &mut [u8], numbers: Numbers<u32>, name: &[u64])
     requires { (512 ≤ length out.old) × (length name.now ≤ 64) }
     ensures { out.new ≡ laid (page_of (set_up (news_of numbers (low_bytes name.now)))) out.old }
 {
-    let splice = Splice {
-        from: 0,
-        gone: 0,
-        source: Source::Nothing,
-    };
-    encode_commit(out, splice, numbers, name);
+    encode_commit(out, no_splice(), numbers, name);
 }
 
 /// One that sets nothing but a weight of the ring, or a file.
@@ -86,10 +88,8 @@ fn encode_also(out: &mut [u8], also: Also<u32>, name: &[u64])
     ensures { out.new ≡ laid (page_of (set_up (news 0 0 0 (also_of also (low_bytes name.now))))) out.old }
 {
     let numbers = Numbers {
-        count: 0,
-        current: 0,
-        weight: 0,
         also,
+        ..Numbers::default()
     };
     encode_numbers(out, numbers, name);
 }

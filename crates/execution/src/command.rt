@@ -119,12 +119,7 @@ fn begin_job(
         went: went_at_once(plan, registers.kept.weight),
         bytes: 0,
     };
-    registers.putting = Putting {
-        second: false,
-        more: false,
-        at: 0,
-        part: 0,
-    };
+    registers.putting = Putting::default();
 }
 
 /// What changes nothing is at its end; all else begins with the walk.

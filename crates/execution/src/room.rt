@@ -135,12 +135,8 @@ fn carrying(quota: u64) -> Carrying
     ensures { result ≡ carries 0 0 0 0 quota false }
 {
     Carrying {
-        index: 0,
-        part: 0,
-        long: 0,
-        start: 0,
         quota,
-        waking: false,
+        ..Carrying::default()
     }
 }
 

@@ -21,8 +21,9 @@ pub struct Splice<N> {
 }
 
 /// What a commit says besides the numbers of the text.
-#[derive(Clone, Copy)]
+#[derive(Clone, Copy, Default)]
 pub enum Also<N> {
+    #[default]
     Nothing,
     /// The weight of a stand, behind those that there are.
     Push(N),
@@ -31,7 +32,7 @@ pub enum Also<N> {
 }
 
 /// The small state that a commit sets.
-#[derive(Clone, Copy)]
+#[derive(Clone, Copy, Default)]
 pub struct Numbers<N> {
     pub count: N,
     pub current: N,
