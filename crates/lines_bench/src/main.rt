@@ -13,10 +13,12 @@ const WORDS: usize = 174_763;
 const TURNS: u32 = 20;
 
 /// A directory whose entries are the records from 1 on, on tape 0.
+// Not by `lines::fill`: where that is called here, too, the moves are compiled otherwise, and take a fourth longer.
 fn filled(heap: Global) -> anyhow::Result<Vec<u64>> {
     let mut dir = vec![in heap; 0; WORDS]?;
-    let entries: Vec<u64> = (1..=COUNT as u64).collect(heap)?;
-    let _ = lines::fill(dir.as_mut_slice(), 0, entries.as_slice());
+    for i in 0..COUNT {
+        lines::set(dir.as_mut_slice(), i, i as u64 + 1);
+    }
     Ok(dir)
 }
 
