@@ -35,8 +35,8 @@ const WIDE: Text = Text {
 fn count(rt: &HostRuntime, text: Text, facts: &mut Facts, timed: bool) -> Result<Vec<Row>, Fault> {
     let mut bench = Bench::build(rt, text)?;
     let rows = bench.rows(facts)?;
-    report::print_rows(rt, text, &rows)?;
-    facts.look(&rows);
+    bench.print(rows.as_slice())?;
+    facts.look(rows.as_slice());
     if timed {
         bench.tell_all()?;
     }
@@ -63,7 +63,7 @@ fn run(rt: &HostRuntime) -> Result<(), Fault> {
     for lines in [10_000, 100_000, 400_000] {
         if all || lines <= COUNTED {
             let longer = count(rt, Text { lines, width: 8 }, &mut facts, all)?;
-            facts.compare(&shorter, &longer);
+            facts.compare(shorter.as_slice(), longer.as_slice());
         }
     }
     rt.println(facts)?;

@@ -109,6 +109,20 @@ impl Bench<'_> {
             Err(Fault::Compaction)
         }
     }
+
+    /// A line for each command.
+    pub fn print(&self, rows: &[Row]) -> Result<(), Fault> {
+        let rt = self.rt();
+        let Text { lines, width } = self.text;
+        let room = self.text.room();
+        println!(rt; "{lines} lines of {width} bytes, tapes of {room} records")?;
+        println!(rt; "                  at rest         while compaction runs")?;
+        println!(rt; "command    place     read     put    read     put allowed")?;
+        for row in rows {
+            rt.println(row)?;
+        }
+        Ok(())
+    }
 }
 
 /// The records of a command in columns.
@@ -148,22 +162,9 @@ impl Row {
     }
 }
 
-/// A line for each command.
-pub fn print_rows(rt: &HostRuntime, text: Text, rows: &Vec<Row>) -> Result<(), Fault> {
-    let Text { lines, width } = text;
-    let room = text.room();
-    println!(rt; "{lines} lines of {width} bytes, tapes of {room} records")?;
-    println!(rt; "                  at rest         while compaction runs")?;
-    println!(rt; "command    place     read     put    read     put allowed")?;
-    for row in rows {
-        rt.println(row)?;
-    }
-    Ok(())
-}
-
 impl Facts {
     /// Looks at the rows of one text.
-    pub fn look(&mut self, rows: &Vec<Row>) {
+    pub fn look(&mut self, rows: &[Row]) {
         for row in rows {
             if row.case.is_single() {
                 self.single = self.single.max(row.rest.map_or(0, Cost::records));
@@ -173,7 +174,7 @@ impl Facts {
     }
 
     /// Compares the rows of one text with those of a shorter one, but for commands on all lines.
-    pub fn compare(&mut self, shorter: &Vec<Row>, longer: &Vec<Row>) {
+    pub fn compare(&mut self, shorter: &[Row], longer: &[Row]) {
         for (one, other) in shorter.iter().zip(longer) {
             if one.case.place != Place::All {
                 self.differs = self.differs || one.records() != other.records();

@@ -28,10 +28,9 @@ impl Tape {
 
     /// A record; nothing behind the last.
     pub fn read(&self, record: u64) -> &[u8] {
-        match self.records.get(record as usize) {
-            Some(page) => page,
-            None => &[],
-        }
+        self.records
+            .get(record as usize)
+            .map_or(&[], |page| page.as_slice())
     }
 
     /// One record more.
