@@ -72,6 +72,7 @@ impl Tour {
         ensures empty { length pages.now ≡ 0 → OnSome result (⊥) }
         ensures below { IfSome result (λ d. 512 * d.record < 512 * self.old.seen + length pages.now) }
     {
+        // With `find_map` the proof of `below` doesn't close, since the closure would change the tour.
         for page in pages.chunks(PAGE) {
             let damage = self.look(page);
             if damage.is_some() {
