@@ -210,6 +210,7 @@ impl<'a> Machine<'a> {
     }
 
     fn tape(&mut self, number: u64) -> Result<&mut Tape, Fault> {
+        // Of a slice: that of the array itself gets no proof yet, as its elements own memory.
         let tapes = &mut self.tapes;
         tapes[..].get_mut(number as usize).ok_or(Fault::Tape)
     }
