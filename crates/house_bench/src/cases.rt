@@ -1,15 +1,11 @@
 //! The commands that are measured, and how each is typed.
 
 use crate::fault::Fault;
+use crate::texts::Text;
 use std::alloc::Global;
 use std::fmt;
 
-/// The most bytes that are typed for lines given.
-const TYPED: u64 = 65_000;
-/// How many commands on some lines there are.
-pub const ON_LINES: usize = 16;
-
-#[derive(Clone, Copy)]
+#[derive(Clone, Copy, PartialEq, Eq)]
 pub enum Deed {
     Append,
     Insert,
@@ -27,7 +23,7 @@ pub enum Deed {
 
 impl fmt::Display for Deed {
     fn fmt<W: fmt::Write>(&self, f: &mut fmt::Formatter<W>) -> fmt::Result {
-        f.write_str(match *self {
+        f.write_str(match self {
             Deed::Append => "a",
             Deed::Insert => "i",
             Deed::Change => "c",
@@ -45,7 +41,7 @@ impl fmt::Display for Deed {
 }
 
 /// Where the lines are.
-#[derive(Clone, Copy)]
+#[derive(Clone, Copy, PartialEq, Eq)]
 pub enum Place {
     Front,
     Middle,
@@ -54,17 +50,14 @@ pub enum Place {
     All,
 }
 
-/// A text: how many lines it has, and how many bytes a line.
-#[derive(Clone, Copy)]
-pub struct Text {
-    pub lines: u64,
-    pub width: u64,
-}
-
-impl Text {
-    /// How many lines can be given at once.
-    pub fn most_given(self) -> u64 {
-        TYPED / self.width.saturating_add(1).max(1)
+impl fmt::Display for Place {
+    fn fmt<W: fmt::Write>(&self, f: &mut fmt::Formatter<W>) -> fmt::Result {
+        f.pad(match self {
+            Place::Front => "front",
+            Place::Middle => "middle",
+            Place::End => "end",
+            Place::All => "all",
+        })
     }
 }
 
@@ -77,7 +70,7 @@ pub struct Case {
 }
 
 /// The commands on some lines, by how many.
-pub const LINES: [(Deed, u64); ON_LINES] = [
+pub const LINES: [(Deed, u64); 16] = [
     (Deed::Append, 1),
     (Deed::Insert, 1),
     (Deed::Change, 1),
@@ -121,20 +114,14 @@ impl Case {
         }
     }
 
-    /// Whether it puts in, takes out or shows one line, or says where one is.
-    pub fn is_single(self) -> bool {
-        match self.deed {
-            Deed::Edit | Deed::Files | Deed::Write | Deed::Join => false,
-            _ => self.lines == 1,
-        }
-    }
-
     /// Whether a bound is stated for it.
     pub fn is_bounded(self) -> bool {
-        match self.deed {
-            Deed::Edit | Deed::Files | Deed::Write => false,
-            _ => true,
-        }
+        !matches!(self.deed, Deed::Edit | Deed::Files | Deed::Write)
+    }
+
+    /// Whether it puts in, takes out or shows one line, or says where one is.
+    pub fn is_single(self) -> bool {
+        self.is_bounded() && self.deed != Deed::Join && self.lines == 1
     }
 
     /// The records allowed where it shows so many rows.
@@ -147,7 +134,7 @@ impl Case {
     }
 
     /// How it is typed.
-    pub fn typed(self, heap: Global, text: Text) -> Result<Vec<u8>, Fault> {
+    pub fn typed(self, heap: Global, text: Text) -> Result<String, Fault> {
         let first = self.first(text);
         let last = self.last(text);
         let deed = self.deed;
@@ -162,41 +149,29 @@ impl Case {
             (Deed::Files, _) => format!(in heap; "f")?,
             _ => format!(in heap; "{first},{last}{deed}")?,
         };
-        given_behind(heap, command, self.given(), text.width)
+        text.given(command, self.given())
     }
 
     /// What puts the text as it was, if it isn't.
-    pub fn undone(self, heap: Global, text: Text) -> Result<Option<Vec<u8>>, Fault> {
+    pub fn undone(self, heap: Global, text: Text) -> Result<Option<String>, Fault> {
         let first = self.first(text);
         let before = first.saturating_sub(1);
         Ok(match self.deed {
-            Deed::Append | Deed::Insert => Some(given_behind(heap, format!(in heap; "d")?, 0, 0)?),
-            Deed::Delete => Some(given_behind(
-                heap,
-                format!(in heap; "{before}a")?,
-                self.lines,
-                text.width,
-            )?),
-            Deed::Join => Some(given_behind(heap, format!(in heap; "{first}c")?, 2, text.width)?),
+            Deed::Append | Deed::Insert => Some(format!(in heap; "d")?),
+            Deed::Delete => Some(text.given(format!(in heap; "{before}a")?, self.lines)?),
+            Deed::Join => Some(text.given(format!(in heap; "{first}c")?, 2)?),
             _ => None,
         })
     }
 }
 
-/// A command and lines behind it, of so many bytes each.
-pub fn given_behind(
-    heap: Global,
-    command: String,
-    lines: u64,
-    width: u64,
-) -> Result<Vec<u8>, Fault> {
-    let mut typed = Vec::new(heap);
-    typed.extend_from_slice(command.as_str().as_bytes())?;
-    for _ in 0..lines {
-        typed.push(b'\n')?;
-        for _ in 0..width {
-            typed.push(b'x')?;
+impl fmt::Display for Case {
+    fn fmt<W: fmt::Write>(&self, f: &mut fmt::Formatter<W>) -> fmt::Result {
+        let Case { deed, lines, place } = *self;
+        match (deed, place) {
+            (Deed::GoTo, _) => write!(f, "line alone {place:<6}"),
+            (_, Place::All) => write!(f, "{deed}          {place:<6}"),
+            _ => write!(f, "{deed} {lines:>4}     {place:<6}"),
         }
     }
-    Ok(typed)
 }

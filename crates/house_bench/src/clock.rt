@@ -1,9 +1,10 @@
 //! How long steps take.
 
+use std::fmt;
 use std::time::Duration;
 
 /// What a step did, as far as it is timed apart from others.
-#[derive(Clone, Copy)]
+#[derive(Clone, Copy, PartialEq, Eq, PartialOrd, Ord)]
 pub enum Kind {
     /// A row is shown.
     Show,
@@ -21,14 +22,14 @@ pub enum Kind {
 /// How many steps, how long they took together, the shortest and the longest, in nanoseconds.
 #[derive(Clone, Copy)]
 pub struct Clock {
-    pub count: u64,
-    pub sum: u64,
-    pub least: u64,
-    pub most: u64,
+    count: u64,
+    sum: u64,
+    least: u64,
+    most: u64,
 }
 
-impl Clock {
-    pub fn new() -> Clock {
+impl Default for Clock {
+    fn default() -> Clock {
         Clock {
             count: 0,
             sum: 0,
@@ -36,7 +37,9 @@ impl Clock {
             most: 0,
         }
     }
+}
 
+impl Clock {
     pub fn note(&mut self, took: Duration) {
         let nanos = u64::try_from(took.as_nanos()).unwrap_or(u64::MAX);
         self.count = self.count.saturating_add(1);
@@ -44,47 +47,20 @@ impl Clock {
         self.least = self.least.min(nanos);
         self.most = self.most.max(nanos);
     }
-
-    pub fn mean(self) -> u64 {
-        if self.count == 0 {
-            0
-        } else {
-            self.sum / self.count
-        }
-    }
 }
 
-/// A clock for each kind of step.
-#[derive(Clone, Copy)]
-pub struct Times {
-    pub show: Clock,
-    pub carry: Clock,
-    pub ask: Clock,
-    pub line: Clock,
-    pub commit: Clock,
-    pub other: Clock,
-}
-
-impl Times {
-    pub fn new() -> Times {
-        Times {
-            show: Clock::new(),
-            carry: Clock::new(),
-            ask: Clock::new(),
-            line: Clock::new(),
-            commit: Clock::new(),
-            other: Clock::new(),
-        }
-    }
-
-    pub fn note(&mut self, kind: Kind, took: Duration) {
-        match kind {
-            Kind::Show => self.show.note(took),
-            Kind::Carry => self.carry.note(took),
-            Kind::Ask => self.ask.note(took),
-            Kind::Line => self.line.note(took),
-            Kind::Commit => self.commit.note(took),
-            Kind::Other => self.other.note(took),
-        }
+impl fmt::Display for Clock {
+    fn fmt<W: fmt::Write>(&self, f: &mut fmt::Formatter<W>) -> fmt::Result {
+        let Clock {
+            count,
+            sum,
+            least,
+            most,
+        } = *self;
+        let mean = sum.checked_div(count).unwrap_or(0);
+        write!(
+            f,
+            "{count} steps, least {least} ns, mean {mean} ns, most {most} ns"
+        )
     }
 }

@@ -1,5 +1,6 @@
 //! Why the measuring ends early.
 
+use crate::machine::Refusal;
 use std::alloc::{AllocError, AllocFailed};
 use std::{fmt, io};
 
@@ -15,8 +16,8 @@ pub enum Fault {
     Full,
     /// The house doesn't end a command.
     Endless,
-    /// A command that was to be done is refused, with this number.
-    Refused(u64),
+    /// A command that was to be done is refused.
+    Refused(Refusal),
     /// Compaction began or ended where it wasn't to.
     Compaction,
     /// A bound isn't kept.
@@ -32,7 +33,7 @@ impl fmt::Display for Fault {
             Fault::Tape => f.write_str("the house asks for a tape that isn't there"),
             Fault::Full => f.write_str("the house puts more on a tape than it has room for"),
             Fault::Endless => f.write_str("the house doesn't end a command"),
-            Fault::Refused(number) => write!(f, "a command is refused: {number}"),
+            Fault::Refused(Refusal(number)) => write!(f, "a command is refused: {number}"),
             Fault::Compaction => f.write_str("compaction began or ended where it wasn't to"),
             Fault::Exceeded => f.write_str("a bound is exceeded"),
         }
@@ -54,5 +55,11 @@ impl<T: Drop> From<AllocFailed<T>> for Fault {
 impl From<io::Error> for Fault {
     fn from(error: io::Error) -> Fault {
         Fault::Console(error)
+    }
+}
+
+impl From<Refusal> for Fault {
+    fn from(refusal: Refusal) -> Fault {
+        Fault::Refused(refusal)
     }
 }

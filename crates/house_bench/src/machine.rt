@@ -1,10 +1,11 @@
 //! The house on two tapes in memory: each act that it wants is done, counted, and the step before it timed.
 
-use crate::clock::{Kind, Times};
+use crate::clock::{Clock, Kind};
 use crate::fault::Fault;
-use crate::tape::{RECORD, Tapes};
+use crate::tape::{RECORD, Tape};
 use core_house::Told;
 use std::alloc::Global;
+use std::collections::BTreeMap;
 use std::time::Instant;
 
 /// The first byte of a page that is a line, a copy, a commit.
@@ -24,7 +25,7 @@ enum Event {
 }
 
 /// Records that were read and put on for a command, and rows that were shown.
-#[derive(Clone, Copy)]
+#[derive(Clone, Copy, Default)]
 pub struct Cost {
     pub read: u64,
     pub put: u64,
@@ -32,48 +33,18 @@ pub struct Cost {
 }
 
 impl Cost {
-    pub fn new() -> Cost {
-        Cost {
-            read: 0,
-            put: 0,
-            shown: 0,
-        }
-    }
-
     /// Records in all.
     pub fn records(self) -> u64 {
         self.read.saturating_add(self.put)
     }
 }
 
+/// A command is refused, with this number.
+#[derive(Clone, Copy, PartialEq, Eq)]
+pub struct Refusal(pub u64);
+
 /// How a command ended.
-#[derive(Clone, Copy)]
-pub enum Outcome {
-    Done(Cost),
-    Refused(u64),
-}
-
-/// What follows an act: the record that was asked for, the next act, or the end.
-#[derive(Clone, Copy)]
-enum After {
-    Record(u64),
-    Next,
-    End(Outcome),
-}
-
-/// The house's memory, the row in which it hands out bytes, its tapes, and what was counted.
-#[derive(Drop)]
-pub struct Machine {
-    heap: Global,
-    room: u64,
-    memory: Vec<u64>,
-    row: Vec<u8>,
-    tapes: Tapes,
-    active: u64,
-    compacting: bool,
-    cost: Cost,
-    times: Times,
-}
+pub type Outcome = Result<Cost, Refusal>;
 
 /// What a step did, by what it says and the page that it hands out.
 fn kind_of(told: Told, row: &[u8]) -> Kind {
@@ -90,40 +61,78 @@ fn kind_of(told: Told, row: &[u8]) -> Kind {
     }
 }
 
-/// One step, timed.
-fn timed(
-    rt: &HostRuntime,
-    times: &mut Times,
-    memory: &mut [u64],
-    row: &mut [u8],
-    event: Event,
-    bytes: &[u8],
-) -> Result<Told, Fault> {
-    let start = Instant::now(rt)?;
-    let told = core_house::step(memory, event as u64, bytes, row);
-    let took = start.elapsed(rt)?;
-    times.note(kind_of(told, row), took);
-    Ok(told)
+/// The house's memory, the row in which it hands out bytes, and a clock for each kind of step.
+#[derive(Drop)]
+struct House<'a> {
+    rt: &'a HostRuntime,
+    memory: Vec<u64>,
+    row: Vec<u8>,
+    clocks: BTreeMap<Kind, Clock>,
 }
 
-impl Machine {
+impl House<'_> {
+    /// One step, timed.
+    fn step(&mut self, event: Event, bytes: &[u8]) -> Result<Told, Fault> {
+        let memory = self.memory.as_mut_slice();
+        let row = self.row.as_mut_slice();
+        let start = Instant::now(self.rt)?;
+        let told = core_house::step(memory, event as u64, bytes, row);
+        let took = start.elapsed(self.rt)?;
+        self.clocks
+            .entry(kind_of(told, row))?
+            .or_default()
+            .note(took);
+        Ok(told)
+    }
+
+    /// The step with a record that was asked for: twice its number, and its tape.
+    fn take(&mut self, tapes: &[Tape; 2], which: u64) -> Result<Told, Fault> {
+        let tape = &tapes[(which % 2) as usize];
+        self.step(Event::Record, tape.read(which / 2))
+    }
+
+    /// The step behind an act that is done.
+    fn proceed(&mut self) -> Result<Told, Fault> {
+        self.step(Event::Next, &[])
+    }
+}
+
+/// A house, its tapes, and what was counted.
+#[derive(Drop)]
+pub struct Machine<'a> {
+    house: House<'a>,
+    tapes: [Tape; 2],
+    room: u64,
+    active: usize,
+    compacting: bool,
+    cost: Cost,
+}
+
+impl<'a> Machine<'a> {
     /// A house with two empty tapes, without power.
-    pub fn new(heap: Global, room: u64) -> Result<Machine, Fault> {
+    pub fn new(rt: &'a HostRuntime, room: u64) -> Result<Machine<'a>, Fault> {
+        let heap = rt.alloc();
         Ok(Machine {
-            heap,
+            house: House {
+                rt,
+                memory: Vec::new(heap),
+                row: vec![in heap; 0; core_house::ROW]?,
+                clocks: BTreeMap::new(heap),
+            },
+            tapes: [Tape::new(heap, room), Tape::new(heap, room)],
             room,
-            memory: Vec::new(heap),
-            row: vec![in heap; 0; core_house::ROW]?,
-            tapes: Tapes::new(heap, room),
             active: 0,
             compacting: false,
-            cost: Cost::new(),
-            times: Times::new(),
+            cost: Cost::default(),
         })
     }
 
+    pub fn rt(&self) -> &'a HostRuntime {
+        self.house.rt
+    }
+
     pub fn heap(&self) -> Global {
-        self.heap
+        self.house.rt.alloc()
     }
 
     /// Whether entries are being carried to the other tape.
@@ -134,112 +143,97 @@ impl Machine {
     /// How many records may still be put on the tape that counts before compaction begins.
     pub fn left(&self) -> u64 {
         let threshold = self.room.saturating_mul(7) / 8;
-        threshold.saturating_sub(self.tapes.look(self.active).records())
+        threshold.saturating_sub(self.tapes.get(self.active).map_or(0, Tape::len))
     }
 
-    pub fn times(&self) -> Times {
-        self.times
+    /// How long the steps of a kind took since the clocks began.
+    pub fn clock(&self, kind: Kind) -> Clock {
+        self.house.clocks.get(&kind).copied().unwrap_or_default()
     }
 
     /// All clocks begin anew.
     pub fn start_clocks(&mut self) {
-        self.times = Times::new();
+        self.house.clocks.clear();
     }
 
     /// Power comes, with nothing in memory.
-    pub fn wake(&mut self, rt: &HostRuntime) -> Result<Cost, Fault> {
-        self.memory = vec![in self.heap; 0; core_house::MEMORY]?;
+    pub fn wake(&mut self) -> Result<Cost, Fault> {
+        self.house.memory = vec![in self.heap(); 0; core_house::MEMORY]?;
         self.compacting = false;
         let room = self.room.to_be_bytes();
-        let outcome = self.tell(rt, Event::Power, &room)?;
+        let outcome = self.tell(Event::Power, &room)?;
         self.compacting = false;
-        match outcome {
-            Outcome::Done(cost) => Ok(cost),
-            Outcome::Refused(number) => Err(Fault::Refused(number)),
-        }
+        Ok(outcome?)
     }
 
     /// A command, and what came of it.
-    pub fn command(&mut self, rt: &HostRuntime, text: &[u8]) -> Result<Outcome, Fault> {
-        self.tell(rt, Event::Command, text)
+    pub fn command(&mut self, text: &str) -> Result<Outcome, Fault> {
+        self.tell(Event::Command, text.as_bytes())
     }
 
     /// A command that is not to be refused.
-    pub fn done(&mut self, rt: &HostRuntime, text: &[u8]) -> Result<Cost, Fault> {
-        match self.command(rt, text)? {
-            Outcome::Done(cost) => Ok(cost),
-            Outcome::Refused(number) => Err(Fault::Refused(number)),
+    pub fn done(&mut self, text: &str) -> Result<Cost, Fault> {
+        Ok(self.command(text)??)
+    }
+
+    /// Commands that are not to be refused, all of them so many times.
+    pub fn repeat(&mut self, times: u64, commands: &[&str]) -> Result<(), Fault> {
+        for _ in 0..times {
+            for command in commands {
+                self.done(command)?;
+            }
         }
+        Ok(())
     }
 
     /// One event, and all acts that follow from it.
-    fn tell(&mut self, rt: &HostRuntime, event: Event, bytes: &[u8]) -> Result<Outcome, Fault> {
-        self.cost = Cost::new();
-        let mut told = self.step(rt, event, bytes)?;
+    fn tell(&mut self, event: Event, bytes: &[u8]) -> Result<Outcome, Fault> {
+        self.cost = Cost::default();
+        let mut told = self.house.step(event, bytes)?;
         for _ in 0..u64::MAX {
-            told = match self.act(told)? {
-                After::Record(which) => self.step_record(rt, which)?,
-                After::Next => self.step(rt, Event::Next, &[])?,
-                After::End(outcome) => return Ok(outcome),
+            told = match told {
+                Told::Read(which) => self.read(which)?,
+                Told::Append(tape) => self.append(tape)?,
+                Told::Fasten(_) => self.house.proceed()?,
+                Told::Begin(tape) => self.begin(tape)?,
+                Told::Shows(_) => self.show()?,
+                Told::Done => return Ok(Ok(self.cost)),
+                Told::No(number) => return Ok(Err(Refusal(number))),
             };
         }
         Err(Fault::Endless)
     }
 
-    fn step(&mut self, rt: &HostRuntime, event: Event, bytes: &[u8]) -> Result<Told, Fault> {
-        timed(
-            rt,
-            &mut self.times,
-            self.memory.as_mut_slice(),
-            self.row.as_mut_slice(),
-            event,
-            bytes,
-        )
+    fn read(&mut self, which: u64) -> Result<Told, Fault> {
+        self.cost.read = self.cost.read.saturating_add(1);
+        self.house.take(&self.tapes, which)
     }
 
-    fn step_record(&mut self, rt: &HostRuntime, which: u64) -> Result<Told, Fault> {
-        timed(
-            rt,
-            &mut self.times,
-            self.memory.as_mut_slice(),
-            self.row.as_mut_slice(),
-            Event::Record,
-            self.tapes.look(which % 2).read(which / 2),
-        )
+    fn tape(&mut self, number: u64) -> Result<&mut Tape, Fault> {
+        // Of a slice: that of the array itself gets no proof yet, as its elements own memory.
+        let tapes = &mut self.tapes;
+        tapes[..].get_mut(number as usize).ok_or(Fault::Tape)
     }
 
-    /// Does one act, and counts it.
-    fn act(&mut self, told: Told) -> Result<After, Fault> {
-        match told {
-            Told::Read(which) => {
-                self.cost.read = self.cost.read.saturating_add(1);
-                return Ok(After::Record(which));
-            }
-            Told::Append(tape) => self.append(tape)?,
-            Told::Fasten(_) => {}
-            Told::Begin(tape) => self.begin(tape)?,
-            Told::Shows(_) => self.cost.shown = self.cost.shown.saturating_add(1),
-            Told::Done => return Ok(After::End(Outcome::Done(self.cost))),
-            Told::No(number) => return Ok(After::End(Outcome::Refused(number))),
-        }
-        Ok(After::Next)
-    }
-
-    fn append(&mut self, tape: u64) -> Result<(), Fault> {
+    fn append(&mut self, tape: u64) -> Result<Told, Fault> {
         self.cost.put = self.cost.put.saturating_add(1);
-        match self.row.get(0..RECORD) {
-            Some(record) => self.tapes.tape(tape)?.append(record),
-            None => Err(Fault::Tape),
-        }
+        let record = *self.house.row.first_chunk().ok_or(Fault::Tape)?;
+        self.tape(tape)?.append(record)?;
+        self.house.proceed()
     }
 
     /// The other tape begins with compaction, the one that counted at its end.
-    fn begin(&mut self, tape: u64) -> Result<(), Fault> {
-        self.tapes.tape(tape)?.begin();
+    fn begin(&mut self, tape: u64) -> Result<Told, Fault> {
+        self.tape(tape)?.begin();
         if self.compacting {
             self.active = if tape == 0 { 1 } else { 0 };
         }
         self.compacting = !self.compacting;
-        Ok(())
+        self.house.proceed()
+    }
+
+    fn show(&mut self) -> Result<Told, Fault> {
+        self.cost.shown = self.cost.shown.saturating_add(1);
+        self.house.proceed()
     }
 }

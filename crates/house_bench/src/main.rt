@@ -3,12 +3,11 @@
 
 #![tactic(auto)]
 
-use cases::Text;
 use fault::Fault;
-use machine::Machine;
 use report::{Facts, Row};
 use std::env;
 use std::process::ExitCode;
+use texts::{Bench, Text};
 
 mod cases;
 mod clock;
@@ -34,14 +33,12 @@ const WIDE: Text = Text {
 
 /// Counts for one text, and times where they are asked for.
 fn count(rt: &HostRuntime, text: Text, facts: &mut Facts, timed: bool) -> Result<Vec<Row>, Fault> {
-    let mut machine = Machine::new(rt.alloc(), texts::room(text))?;
-    texts::build(rt, &mut machine, text)?;
-    let mut rows = report::at_rest(rt, &mut machine, text)?;
-    report::while_compacting(rt, &mut machine, text, &mut rows, facts)?;
-    report::print_rows(rt, text, &rows)?;
-    facts.look(&rows);
+    let mut bench = Bench::build(rt, text)?;
+    let rows = bench.rows(facts)?;
+    bench.print(rows.as_slice())?;
+    facts.look(rows.as_slice());
     if timed {
-        timing::counted(rt, text, machine.times())?;
+        bench.tell_all()?;
     }
     Ok(rows)
 }
@@ -60,16 +57,16 @@ fn asks_for_all(rt: &HostRuntime) -> Result<bool, Fault> {
 
 fn run(rt: &HostRuntime) -> Result<(), Fault> {
     let all = asks_for_all(rt)?;
-    let mut facts = Facts::new();
+    let mut facts = Facts::default();
     let shorter = count(rt, SHORT, &mut facts, all)?;
     let _ = count(rt, WIDE, &mut facts, all)?;
     for lines in [10_000, 100_000, 400_000] {
         if all || lines <= COUNTED {
             let longer = count(rt, Text { lines, width: 8 }, &mut facts, all)?;
-            facts.compare(&shorter, &longer);
+            facts.compare(shorter.as_slice(), longer.as_slice());
         }
     }
-    facts.print(rt)?;
+    rt.println(facts)?;
     if all {
         timing::all(rt)?;
     }

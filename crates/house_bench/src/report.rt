@@ -1,10 +1,11 @@
 //! Records of every command on one text, at rest and while compaction runs, and what has to hold of them.
 
-use crate::cases::{Case, Deed, LINES, Place, Text};
+use crate::cases::{Case, Deed, LINES, Place};
 use crate::fault::Fault;
-use crate::machine::{Cost, Machine, Outcome};
-use crate::texts;
+use crate::machine::{Cost, Outcome, Refusal};
+use crate::texts::{Bench, Text};
 use std::alloc::Global;
+use std::fmt;
 
 /// The most records of a command on one line, at rest.
 const SINGLE: u64 = 8;
@@ -19,15 +20,15 @@ pub struct Row {
     busy: Outcome,
 }
 
-/// What holds of all rows that were looked at.
-#[derive(Clone, Copy)]
+/// What was seen in all rows that were looked at.
+#[derive(Clone, Copy, Default)]
 pub struct Facts {
     /// The most records of a command on one line, at rest.
     single: u64,
-    /// Whether each command by numbers stayed within what is allowed.
-    bounded: bool,
-    /// Whether at rest the records were the same in a longer text.
-    same: bool,
+    /// Whether a command by numbers took more than what is allowed.
+    exceeded: bool,
+    /// Whether at rest the records were others in a longer text.
+    differs: bool,
     /// What the command took that began compaction, at most.
     begun: u64,
 }
@@ -51,206 +52,174 @@ fn cases(heap: Global, text: Text) -> Result<Vec<Case>, Fault> {
     Ok(cases)
 }
 
-/// One command, after which the text is as it was.
-fn measure(
-    rt: &HostRuntime,
-    machine: &mut Machine,
-    text: Text,
-    case: Case,
-) -> Result<Outcome, Fault> {
-    let heap = machine.heap();
-    let typed = case.typed(heap, text)?;
-    let outcome = machine.command(rt, typed.as_slice())?;
-    if let Outcome::Refused(_) = outcome {
-        return Ok(outcome);
-    }
-    if let Some(undone) = case.undone(heap, text)? {
-        machine.done(rt, undone.as_slice())?;
-    }
-    if let Deed::Edit = case.deed {
-        texts::lighten(rt, machine, text)?;
-    }
-    Ok(outcome)
-}
-
-/// Every command while no compaction runs.
-pub fn at_rest(rt: &HostRuntime, machine: &mut Machine, text: Text) -> Result<Vec<Row>, Fault> {
-    let heap = machine.heap();
-    let mut rows = Vec::new(heap);
-    for case in cases(heap, text)? {
-        let rest = measure(rt, machine, text, case)?;
-        if machine.compacting() {
-            return Err(Fault::Compaction);
+impl Bench<'_> {
+    /// Every command, first while no compaction runs, and then while one does.
+    pub fn rows(&mut self, facts: &mut Facts) -> Result<Vec<Row>, Fault> {
+        let mut rows = Vec::new(self.heap());
+        for (case, rest) in self.at_rest()? {
+            self.begin(facts)?;
+            let busy = self.measure(case)?;
+            rows.push(Row { case, rest, busy })?;
         }
-        rows.push(Row {
-            case,
-            rest,
-            busy: rest,
-        })?;
+        self.settle()?;
+        Ok(rows)
     }
-    Ok(rows)
-}
 
-/// Begins compaction, if none runs, by a command on one line.
-fn begin(
-    rt: &HostRuntime,
-    machine: &mut Machine,
-    text: Text,
-    facts: &mut Facts,
-) -> Result<(), Fault> {
-    if machine.compacting() {
-        return Ok(());
-    }
-    texts::fill(rt, machine, text)?;
-    let cost = machine.done(rt, b"1")?;
-    facts.begun = facts.begun.max(cost.records());
-    if machine.compacting() {
-        Ok(())
-    } else {
-        Err(Fault::Compaction)
-    }
-}
-
-/// Every command while compaction runs.
-pub fn while_compacting(
-    rt: &HostRuntime,
-    machine: &mut Machine,
-    text: Text,
-    rows: &mut Vec<Row>,
-    facts: &mut Facts,
-) -> Result<(), Fault> {
-    for row in rows.iter_mut() {
-        begin(rt, machine, text, facts)?;
-        row.busy = measure(rt, machine, text, row.case)?;
-    }
-    texts::settle(rt, machine)
-}
-
-/// How a place is named.
-fn named(place: Place) -> &'static str {
-    match place {
-        Place::Front => "front",
-        Place::Middle => "middle",
-        Place::End => "end",
-        Place::All => "all",
-    }
-}
-
-/// What a command is on.
-fn print_case(rt: &HostRuntime, case: Case) -> Result<(), Fault> {
-    let place = named(case.place);
-    let lines = case.lines;
-    let deed = case.deed;
-    match (deed, case.place) {
-        (Deed::GoTo, _) => print!(rt; "line alone {place:<6}")?,
-        (_, Place::All) => print!(rt; "{deed}          {place:<6}")?,
-        _ => print!(rt; "{deed} {lines:>4}     {place:<6}")?,
-    }
-    Ok(())
-}
-
-fn print_outcome(rt: &HostRuntime, outcome: Outcome) -> Result<(), Fault> {
-    match outcome {
-        Outcome::Done(Cost { read, put, .. }) => print!(rt; " {read:>7} {put:>7}")?,
-        Outcome::Refused(number) => print!(rt; "       refused {number}")?,
-    }
-    Ok(())
-}
-
-/// A line for each command.
-pub fn print_rows(rt: &HostRuntime, text: Text, rows: &Vec<Row>) -> Result<(), Fault> {
-    let Text { lines, width } = text;
-    let room = texts::room(text);
-    println!(rt; "{lines} lines of {width} bytes, tapes of {room} records")?;
-    println!(rt; "                  at rest         while compaction runs")?;
-    println!(rt; "command    place     read     put    read     put allowed")?;
-    for row in rows {
-        print_case(rt, row.case)?;
-        print_outcome(rt, row.rest)?;
-        print_outcome(rt, row.busy)?;
-        match row.busy {
-            Outcome::Done(cost) if row.case.is_bounded() => {
-                println!(rt; " {:>7}", row.case.allowed(cost.shown))?;
+    /// Every command while no compaction runs.
+    fn at_rest(&mut self) -> Result<Vec<(Case, Outcome)>, Fault> {
+        let heap = self.heap();
+        let mut outcomes = Vec::new(heap);
+        for case in cases(heap, self.text)? {
+            outcomes.push((case, self.measure(case)?))?;
+            if self.machine.compacting() {
+                return Err(Fault::Compaction);
             }
-            _ => println!(rt; "")?,
+        }
+        Ok(outcomes)
+    }
+
+    /// One command, after which the text is as it was.
+    fn measure(&mut self, case: Case) -> Result<Outcome, Fault> {
+        let heap = self.heap();
+        let typed = case.typed(heap, self.text)?;
+        let outcome = self.machine.command(typed.as_str())?;
+        if outcome.is_err() {
+            return Ok(outcome);
+        }
+        if let Some(undone) = case.undone(heap, self.text)? {
+            self.machine.done(undone.as_str())?;
+        }
+        if case.deed == Deed::Edit {
+            self.lighten()?;
+        }
+        Ok(outcome)
+    }
+
+    /// Begins compaction, if none runs, by a command on one line.
+    fn begin(&mut self, facts: &mut Facts) -> Result<(), Fault> {
+        if self.machine.compacting() {
+            return Ok(());
+        }
+        self.fill()?;
+        let cost = self.machine.done("1")?;
+        facts.begun = facts.begun.max(cost.records());
+        if self.machine.compacting() {
+            Ok(())
+        } else {
+            Err(Fault::Compaction)
         }
     }
-    Ok(())
-}
 
-/// Whether a command stayed within what is allowed.
-fn within(case: Case, outcome: Outcome) -> bool {
-    match outcome {
-        Outcome::Done(cost) => !case.is_bounded() || cost.records() <= case.allowed(cost.shown),
-        Outcome::Refused(_) => true,
+    /// A line for each command.
+    pub fn print(&self, rows: &[Row]) -> Result<(), Fault> {
+        let rt = self.rt();
+        let Text { lines, width } = self.text;
+        let room = self.text.room();
+        println!(rt; "{lines} lines of {width} bytes, tapes of {room} records")?;
+        println!(rt; "                  at rest         while compaction runs")?;
+        println!(rt; "command    place     read     put    read     put allowed")?;
+        for row in rows {
+            rt.println(row)?;
+        }
+        Ok(())
     }
 }
 
-/// Whether two took the same.
-fn alike(one: Outcome, other: Outcome) -> bool {
-    match (one, other) {
-        (Outcome::Done(a), Outcome::Done(b)) => a.read == b.read && a.put == b.put,
-        (Outcome::Refused(a), Outcome::Refused(b)) => a == b,
-        _ => false,
+/// The records of a command in columns.
+#[derive(Clone, Copy)]
+struct Columns(Outcome);
+
+impl fmt::Display for Columns {
+    fn fmt<W: fmt::Write>(&self, f: &mut fmt::Formatter<W>) -> fmt::Result {
+        match self.0 {
+            Ok(Cost { read, put, .. }) => write!(f, " {read:>7} {put:>7}"),
+            Err(Refusal(number)) => write!(f, "       refused {number}"),
+        }
+    }
+}
+
+impl fmt::Display for Row {
+    fn fmt<W: fmt::Write>(&self, f: &mut fmt::Formatter<W>) -> fmt::Result {
+        let Row { case, rest, busy } = *self;
+        write!(f, "{case}{}{}", Columns(rest), Columns(busy))?;
+        match busy {
+            Ok(cost) if case.is_bounded() => write!(f, " {:>7}", case.allowed(cost.shown)),
+            _ => Ok(()),
+        }
+    }
+}
+
+impl Row {
+    /// Whether the command stayed within what is allowed.
+    fn is_within(self, outcome: Outcome) -> bool {
+        !self.case.is_bounded()
+            || outcome.map_or(true, |cost| cost.records() <= self.case.allowed(cost.shown))
+    }
+
+    /// The records that were read and put on at rest.
+    fn records(self) -> Result<(u64, u64), Refusal> {
+        self.rest.map(|cost| (cost.read, cost.put))
     }
 }
 
 impl Facts {
-    pub fn new() -> Facts {
-        Facts {
-            single: 0,
-            bounded: true,
-            same: true,
-            begun: 0,
-        }
-    }
-
     /// Looks at the rows of one text.
-    pub fn look(&mut self, rows: &Vec<Row>) {
+    pub fn look(&mut self, rows: &[Row]) {
         for row in rows {
-            if let Outcome::Done(cost) = row.rest
-                && row.case.is_single()
-            {
-                self.single = self.single.max(cost.records());
+            if row.case.is_single() {
+                self.single = self.single.max(row.rest.map_or(0, Cost::records));
             }
-            self.bounded = self.bounded && within(row.case, row.rest) && within(row.case, row.busy);
+            self.exceeded = self.exceeded || !row.is_within(row.rest) || !row.is_within(row.busy);
         }
     }
 
     /// Compares the rows of one text with those of a shorter one, but for commands on all lines.
-    pub fn compare(&mut self, shorter: &Vec<Row>, longer: &Vec<Row>) {
-        for (one, other) in shorter.iter().zip(longer.iter()) {
-            match one.case.place {
-                Place::All => {}
-                _ => self.same = self.same && alike(one.rest, other.rest),
+    pub fn compare(&mut self, shorter: &[Row], longer: &[Row]) {
+        for (one, other) in shorter.iter().zip(longer) {
+            if one.case.place != Place::All {
+                self.differs = self.differs || one.records() != other.records();
             }
         }
     }
 
-    /// What holds, in words.
-    pub fn print(&self, rt: &HostRuntime) -> Result<(), Fault> {
-        let single = self.single;
-        let begun = self.begun;
-        let few = said(single <= SINGLE);
-        let same = said(self.same);
-        let bounded = said(self.bounded && begun <= BEGUN);
-        println!(rt;
-            "one line put in, taken out or shown, at rest: at most {single} records of {SINGLE}: {few}"
-        )?;
-        println!(rt;
-            "at rest as many records in a longer text, for all but the whole text: {same}"
-        )?;
-        println!(rt; "a line alone that begins compaction: at most {begun} records of {BEGUN}")?;
-        println!(rt; "within 256 + 256 * (lines of the range + given + shown): {bounded}")?;
-        Ok(())
-    }
-
     /// Whether all holds.
     pub fn hold(&self) -> bool {
-        self.single <= SINGLE && self.same && self.bounded && self.begun <= BEGUN
+        self.single <= SINGLE && !self.differs && !self.exceeded && self.begun <= BEGUN
     }
 }
 
-fn said(kept: bool) -> &'static str {
-    if kept { "kept" } else { "exceeded" }
+/// Whether a bound is kept.
+#[derive(Clone, Copy)]
+struct Kept(bool);
+
+impl fmt::Display for Kept {
+    fn fmt<W: fmt::Write>(&self, f: &mut fmt::Formatter<W>) -> fmt::Result {
+        f.write_str(if self.0 { "kept" } else { "exceeded" })
+    }
+}
+
+impl fmt::Display for Facts {
+    fn fmt<W: fmt::Write>(&self, f: &mut fmt::Formatter<W>) -> fmt::Result {
+        let single = self.single;
+        let begun = self.begun;
+        let few = Kept(single <= SINGLE);
+        let same = Kept(!self.differs);
+        let within = Kept(!self.exceeded && begun <= BEGUN);
+        writeln!(
+            f,
+            "one line put in, taken out or shown, at rest: at most {single} records of {SINGLE}: {few}"
+        )?;
+        writeln!(
+            f,
+            "at rest as many records in a longer text, for all but the whole text: {same}"
+        )?;
+        writeln!(
+            f,
+            "a line alone that begins compaction: at most {begun} records of {BEGUN}"
+        )?;
+        write!(
+            f,
+            "within 256 + 256 * (lines of the range + given + shown): {within}"
+        )
+    }
 }

@@ -1,11 +1,10 @@
 //! How long steps take, and to wake up. All of it goes to standard error.
 
-use crate::cases::{Text, given_behind};
-use crate::clock::{Clock, Times};
+use crate::clock::Kind;
 use crate::fault::Fault;
-use crate::machine::Machine;
-use crate::texts;
+use crate::texts::{Bench, Text};
 use std::alloc::Global;
+use std::fmt;
 use std::time::Instant;
 
 /// How often a command is done whose steps are timed.
@@ -14,69 +13,6 @@ const TURNS: u64 = 50;
 const COMMANDS: u64 = 10_000;
 /// In longer texts they aren't.
 const EDITED: u64 = 100_000;
-
-/// One kind of step.
-fn tell(rt: &HostRuntime, what: &str, clock: Clock) -> Result<(), Fault> {
-    let Clock {
-        count,
-        least,
-        most,
-        ..
-    } = clock;
-    let mean = clock.mean();
-    eprintln!(rt; "  {what}: {count} steps, least {least} ns, mean {mean} ns, most {most} ns")?;
-    Ok(())
-}
-
-/// One line put in at the front and taken out again.
-fn front(rt: &HostRuntime, machine: &mut Machine, text: Text) -> Result<(), Fault> {
-    let heap = machine.heap();
-    let put = given_behind(heap, format!(in heap; "1i")?, 1, text.width)?;
-    machine.start_clocks();
-    for _ in 0..TURNS {
-        machine.done(rt, put.as_slice())?;
-        machine.done(rt, b"1d")?;
-    }
-    tell(
-        rt,
-        "a splice applied at the front, by 1i and 1d",
-        machine.times().commit,
-    )
-}
-
-/// The same lines shown again and again.
-fn shows(rt: &HostRuntime, machine: &mut Machine) -> Result<(), Fault> {
-    machine.start_clocks();
-    for _ in 0..TURNS {
-        machine.done(rt, b"1,100p")?;
-    }
-    let times = machine.times();
-    tell(rt, "a line shown", times.show)?;
-    tell(rt, "a line asked for", times.ask)?;
-    tell(rt, "the commit of a p, that moves nothing", times.commit)
-}
-
-/// A compaction from its beginning to its end.
-fn carries(rt: &HostRuntime, machine: &mut Machine) -> Result<(), Fault> {
-    machine.start_clocks();
-    machine.done(rt, b"1")?;
-    texts::settle(rt, machine)?;
-    let times = machine.times();
-    tell(rt, "a line carried", times.carry)?;
-    tell(rt, "the next one to carry asked for", times.ask)
-}
-
-/// Power comes.
-fn wakes(rt: &HostRuntime, machine: &mut Machine, what: &str) -> Result<(), Fault> {
-    machine.start_clocks();
-    let start = Instant::now(rt)?;
-    let cost = machine.wake(rt)?;
-    let took = start.elapsed(rt)?.as_millis();
-    let read = cost.read;
-    let put = cost.put;
-    eprintln!(rt; "  waking up {what}: {took} ms, {read} records read, {put} put on")?;
-    Ok(())
-}
 
 /// What small commands do.
 #[derive(Clone, Copy)]
@@ -89,85 +25,139 @@ enum Habit {
     Front,
 }
 
-impl Habit {
-    fn named(self) -> &'static str {
-        match self {
+impl fmt::Display for Habit {
+    fn fmt<W: fmt::Write>(&self, f: &mut fmt::Formatter<W>) -> fmt::Result {
+        f.write_str(match self {
             Habit::Mixed => "of all kinds",
             Habit::Showing => "that show the first line",
             Habit::Front => "at the front, 1i and 1d in turn",
-        }
-    }
-
-    /// The command of a turn, without lines, and how many lines it gives.
-    fn command(self, heap: Global, turn: u64, lines: u64) -> Result<(String, u64), Fault> {
-        let line = turn.wrapping_mul(7_919) % lines.max(1) + 1;
-        Ok(match (self, turn % 10) {
-            (Habit::Mixed, 0 | 5) => (format!(in heap; "{line}a")?, 1),
-            (Habit::Mixed, 1 | 6) => (format!(in heap; "{line}d")?, 0),
-            (Habit::Mixed, 2 | 7) => (format!(in heap; "{line}c")?, 1),
-            (Habit::Mixed, 3 | 8) => (format!(in heap; "{line}p")?, 0),
-            (Habit::Mixed, _) => (format!(in heap; "{line}")?, 0),
-            (Habit::Showing, _) => (format!(in heap; "1p")?, 0),
-            (Habit::Front, 0 | 2 | 4 | 6 | 8) => (format!(in heap; "1i")?, 1),
-            (Habit::Front, _) => (format!(in heap; "1d")?, 0),
         })
     }
 }
 
-/// Many commands on one line each, and waking up with all of them on the tape.
-fn edits(rt: &HostRuntime, machine: &mut Machine, text: Text, habit: Habit) -> Result<(), Fault> {
-    let heap = machine.heap();
-    let start = Instant::now(rt)?;
-    for turn in 0..COMMANDS {
-        let (command, given) = habit.command(heap, turn, text.lines)?;
-        let typed = given_behind(heap, command, given, text.width)?;
-        machine.done(rt, typed.as_slice())?;
+impl Habit {
+    /// How the command of a turn is typed.
+    fn typed(self, heap: Global, turn: u64, text: Text) -> Result<String, Fault> {
+        let line = turn.wrapping_mul(7_919) % text.lines.max(1) + 1;
+        let (line, deed, given) = match self {
+            Habit::Mixed => match turn % 5 {
+                0 => (line, "a", 1),
+                1 => (line, "d", 0),
+                2 => (line, "c", 1),
+                3 => (line, "p", 0),
+                _ => (line, "", 0),
+            },
+            Habit::Showing => (1, "p", 0),
+            Habit::Front if turn % 2 == 0 => (1, "i", 1),
+            Habit::Front => (1, "d", 0),
+        };
+        text.given(format!(in heap; "{line}{deed}")?, given)
     }
-    let took = start.elapsed(rt)?.as_millis();
-    let named = habit.named();
-    eprintln!(rt; "  {COMMANDS} commands on one line each, {named}: {took} ms")?;
-    texts::settle(rt, machine)?;
-    wakes(rt, machine, "after these")
 }
 
-/// All times of one text.
-fn time(rt: &HostRuntime, text: Text) -> Result<(), Fault> {
-    let lines = text.lines;
-    let mut machine = Machine::new(rt.alloc(), texts::room(text))?;
-    texts::build(rt, &mut machine, text)?;
-    eprintln!(rt; "{lines} lines")?;
-    wakes(rt, &mut machine, "with a text that was given")?;
-    wakes(rt, &mut machine, "after that")?;
-    front(rt, &mut machine, text)?;
-    shows(rt, &mut machine)?;
-    if lines <= EDITED {
-        for habit in [Habit::Mixed, Habit::Showing, Habit::Front] {
-            edits(rt, &mut machine, text, habit)?;
+impl Bench<'_> {
+    /// How long the steps of a kind took since the clocks began.
+    fn tell(&self, what: &str, kind: Kind) -> Result<(), Fault> {
+        let clock = self.machine.clock(kind);
+        eprintln!(self.rt(); "  {what}: {clock}")?;
+        Ok(())
+    }
+
+    /// One line put in at the front and taken out again.
+    fn front(&mut self) -> Result<(), Fault> {
+        let put = self.text.given(format!(in self.heap(); "1i")?, 1)?;
+        self.machine.start_clocks();
+        self.machine.repeat(TURNS, &[put.as_str(), "1d"])?;
+        self.tell("a splice applied at the front, by 1i and 1d", Kind::Commit)
+    }
+
+    /// The same lines shown again and again.
+    fn shows(&mut self) -> Result<(), Fault> {
+        self.machine.start_clocks();
+        self.machine.repeat(TURNS, &["1,100p"])?;
+        self.tell("a line shown", Kind::Show)?;
+        self.tell("a line asked for", Kind::Ask)?;
+        self.tell("the commit of a p, that moves nothing", Kind::Commit)
+    }
+
+    /// A compaction from its beginning to its end.
+    fn carries(&mut self) -> Result<(), Fault> {
+        self.machine.start_clocks();
+        self.machine.done("1")?;
+        self.settle()?;
+        self.tell("a line carried", Kind::Carry)?;
+        self.tell("the next one to carry asked for", Kind::Ask)
+    }
+
+    /// Power comes.
+    fn wakes(&mut self, what: &str) -> Result<(), Fault> {
+        let rt = self.rt();
+        self.machine.start_clocks();
+        let start = Instant::now(rt)?;
+        let cost = self.machine.wake()?;
+        let took = start.elapsed(rt)?.as_millis();
+        let read = cost.read;
+        let put = cost.put;
+        eprintln!(rt; "  waking up {what}: {took} ms, {read} records read, {put} put on")?;
+        Ok(())
+    }
+
+    /// Many commands on one line each, and waking up with all of them on the tape.
+    fn edits(&mut self, habit: Habit) -> Result<(), Fault> {
+        let rt = self.rt();
+        let heap = self.heap();
+        let start = Instant::now(rt)?;
+        for turn in 0..COMMANDS {
+            let typed = habit.typed(heap, turn, self.text)?;
+            self.machine.done(typed.as_str())?;
         }
+        let took = start.elapsed(rt)?.as_millis();
+        eprintln!(rt; "  {COMMANDS} commands on one line each, {habit}: {took} ms")?;
+        self.settle()?;
+        self.wakes("after these")
     }
-    texts::fill(rt, &mut machine, text)?;
-    carries(rt, &mut machine)?;
-    texts::fill(rt, &mut machine, text)?;
-    wakes(rt, &mut machine, "with a tape nearly full")
-}
 
-/// All steps that were made to count the records of one text.
-pub fn counted(rt: &HostRuntime, text: Text, times: Times) -> Result<(), Fault> {
-    let lines = text.lines;
-    let width = text.width;
-    eprintln!(rt; "{lines} lines of {width} bytes, all steps of the counts")?;
-    tell(rt, "a row shown", times.show)?;
-    tell(rt, "a line carried", times.carry)?;
-    tell(rt, "a record asked for", times.ask)?;
-    tell(rt, "a line put on", times.line)?;
-    tell(rt, "a commit put on and applied", times.commit)?;
-    tell(rt, "all else", times.other)
+    /// All times of one text.
+    fn time(&mut self) -> Result<(), Fault> {
+        let lines = self.text.lines;
+        eprintln!(self.rt(); "{lines} lines")?;
+        self.wakes("with a text that was given")?;
+        self.wakes("after that")?;
+        self.front()?;
+        self.shows()?;
+        if lines <= EDITED {
+            for habit in [Habit::Mixed, Habit::Showing, Habit::Front] {
+                self.edits(habit)?;
+            }
+        }
+        self.fill()?;
+        self.carries()?;
+        self.fill()?;
+        self.wakes("with a tape nearly full")
+    }
+
+    /// All steps that were made to count the records of one text.
+    pub fn tell_all(&self) -> Result<(), Fault> {
+        let Text { lines, width } = self.text;
+        eprintln!(self.rt(); "{lines} lines of {width} bytes, all steps of the counts")?;
+        for (what, kind) in [
+            ("a row shown", Kind::Show),
+            ("a line carried", Kind::Carry),
+            ("a record asked for", Kind::Ask),
+            ("a line put on", Kind::Line),
+            ("a commit put on and applied", Kind::Commit),
+            ("all else", Kind::Other),
+        ] {
+            self.tell(what, kind)?;
+        }
+        Ok(())
+    }
 }
 
 /// Times of texts of all sizes.
 pub fn all(rt: &HostRuntime) -> Result<(), Fault> {
     for lines in [1_000, 10_000, 100_000, 400_000] {
-        time(rt, Text { lines, width: 8 })?;
+        Bench::build(rt, Text { lines, width: 8 })?.time()?;
     }
     Ok(())
 }

@@ -3,7 +3,9 @@
 ghost use Rattle.std.specs.Prelude.{◌≡◌, ◌≤◌, nat_lt};
 
 use crate::damage::Wrong;
+use arrayvec::ArrayVec;
 use records::{Also, Numbers, Source, Splice};
+use std::mem;
 
 /// How many entries the directory has at most.
 const ENTRIES: u64 = 524_288;
@@ -11,27 +13,16 @@ const ENTRIES: u64 = 524_288;
 /// How many files there are at most.
 const FILES: usize = 64;
 
-/// How many entries there are, how many lines since the last commit, and how many lines each file has.
-#[derive(Drop)]
+/// How many entries there are, how many lines since the last commit, how many lines each file has, and all of them.
+#[derive(Default, Drop)]
 pub struct Kept {
     entries: u64,
     pending: u64,
-    files: usize,
-    lines: [u64; 64],
+    files: ArrayVec<u32, FILES>,
     filed: u64,
 }
 
 impl Kept {
-    pub fn new() -> Kept {
-        Kept {
-            entries: 0,
-            pending: 0,
-            files: 0,
-            lines: [0; 64],
-            filed: 0,
-        }
-    }
-
     /// A head says how many entries there are.
     pub fn begin(&mut self, entries: u32) -> Result<(), Wrong>
         ensures { entries ≤ 524288 → self.new.entries ≡ entries }
@@ -87,18 +78,15 @@ impl Kept {
     /// A file has so many lines from now on.
     fn store(&mut self, slot: u32, lines: u32) -> Result<(), Wrong> {
         let slot = slot as usize;
-        if slot >= FILES || slot > self.files {
-            return Err(Wrong::File);
+        if slot == self.files.len() {
+            self.files.try_push(0).map_err(|_| Wrong::File)?;
         }
-        let before = self.lines[slot];
-        self.lines[slot] = lines as u64;
+        let file = self.files.get_mut(slot).ok_or(Wrong::File)?;
+        let before = mem::replace(file, lines);
         self.filed = self
             .filed
-            .saturating_sub(before)
+            .saturating_sub(before as u64)
             .saturating_add(lines as u64);
-        if slot == self.files {
-            self.files = slot + 1;
-        }
         Ok(())
     }
 

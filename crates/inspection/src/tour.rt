@@ -16,7 +16,7 @@ const SEAL: usize = 511;
 const LAST_GENERATION: u32 = 3;
 
 /// How far one is in a file, and what the records so far say.
-#[derive(Drop)]
+#[derive(Default, Drop)]
 pub struct Tour {
     seen: u64,
     is_torn: bool,
@@ -36,13 +36,7 @@ impl Tour {
     pub fn new() -> Tour
         ensures { result.seen ≡ 0 }
     {
-        Tour {
-            seen: 0,
-            is_torn: false,
-            generation: 0,
-            due: None,
-            kept: Kept::new(),
-        }
+        Tour::default()
     }
 
     /// The generation that the head names, 0 where there is none.
@@ -68,12 +62,9 @@ impl Tour {
             self.is_torn = true;
             return None;
         }
-        let looked = self.record(page, record == 0);
+        let looked = self.record(page);
         self.seen = record.saturating_add(1);
-        match looked {
-            Ok(()) => None,
-            Err(wrong) => Some(Damage { record, wrong }),
-        }
+        looked.err().map(|wrong| Damage { record, wrong })
     }
 
     /// The next records of the file in a row, the last of them perhaps in part. The number of a damaged one is below how many there are so far.
@@ -81,29 +72,25 @@ impl Tour {
         ensures empty { length pages.now ≡ 0 → OnSome result (⊥) }
         ensures below { IfSome result (λ d. 512 * d.record < 512 * self.old.seen + length pages.now) }
     {
-        let whole = pages.len() / PAGE;
-        for i in 0..whole {
-            let damage = self.look(&pages[i * PAGE..i * PAGE + PAGE]);
+        // With `find_map` the proof of `below` doesn't close, since the closure would change the tour.
+        for page in pages.chunks(PAGE) {
+            let damage = self.look(page);
             if damage.is_some() {
                 return damage;
             }
         }
-        let rest = &pages[whole * PAGE..];
-        if rest.is_empty() {
-            return None;
-        }
-        self.look(rest)
+        None
     }
 
     /// A record that was written whole.
-    fn record(&mut self, page: &[u8], is_first: bool) -> Result<(), Wrong> {
+    fn record(&mut self, page: &[u8]) -> Result<(), Wrong> {
         match records::decode_checked(page) {
             Record::Broken => Err(Wrong::Kind),
             Record::Head {
                 generation,
                 entries,
-            } => self.head(is_first, generation, entries),
-            _ if is_first => Err(Wrong::NoHead),
+            } => self.head(generation, entries),
+            _ if self.seen == 0 => Err(Wrong::NoHead),
             Record::Line(piece) => self.line(piece),
             Record::Copy { index, piece } => self.copy(index, piece),
             Record::Commit {
@@ -114,8 +101,8 @@ impl Tour {
         }
     }
 
-    fn head(&mut self, is_first: bool, generation: u32, entries: u32) -> Result<(), Wrong> {
-        if !is_first {
+    fn head(&mut self, generation: u32, entries: u32) -> Result<(), Wrong> {
+        if self.seen > 0 {
             return Err(Wrong::LateHead);
         }
         if generation == 0 || generation > LAST_GENERATION {

@@ -6,6 +6,9 @@ use std::alloc::{AllocError, Global};
 use std::fmt;
 use typed::{LONGEST_TYPED, read};
 
+/// Some slashes or nothing, question marks, a letter, a blank and a letter, a digit.
+const ENDINGS: [&[u8]; 9] = [b"", b"/", b"//", b"///", b"?", b"??", b"a", b" a", b"1"];
+
 /// Why bytes can't be read.
 #[derive(Clone, Copy)]
 pub enum Failure {
@@ -37,44 +40,20 @@ fn completed(front: &[u8], ending: &[u8], scratch: &mut Vec<u8>) -> Result<bool,
     Ok(read(scratch.as_slice()).is_some())
 }
 
-/// Whether some slashes, or nothing, make a command of these bytes.
-fn slashed(front: &[u8], scratch: &mut Vec<u8>) -> Result<bool, AllocError>
-    ensures { IfOk result (λ b. b ≡ one_of slashes front.now) }
-{
-    Ok(
-        completed(front, b"", scratch)?
-            || completed(front, b"/", scratch)?
-            || completed(front, b"//", scratch)?
-            || completed(front, b"///", scratch)?,
-    )
-}
-
-/// Whether question marks do.
-fn questioned(front: &[u8], scratch: &mut Vec<u8>) -> Result<bool, AllocError>
-    ensures { IfOk result (λ b. b ≡ one_of questions front.now) }
-{
-    Ok(completed(front, b"?", scratch)? || completed(front, b"??", scratch)?)
-}
-
-/// Whether a letter, a name or a digit does.
-fn lettered(front: &[u8], scratch: &mut Vec<u8>) -> Result<bool, AllocError>
-    ensures { IfOk result (λ b. b ≡ one_of letters front.now) }
-{
-    Ok(
-        completed(front, b"a", scratch)?
-            || completed(front, b" a", scratch)?
-            || completed(front, b"1", scratch)?,
-    )
-}
-
-/// Whether one of these endings makes a command of these bytes. They are chosen so that one does wherever a command begins so, which is argued and not proved.
+/// Whether one of the endings makes a command of these bytes. They are chosen so that one does wherever a command begins so, which is argued and not proved.
 fn begins(front: &[u8], scratch: &mut Vec<u8>) -> Result<bool, AllocError>
     ensures { IfOk result (λ b. b ≡ begins front.now) }
 {
-    Ok(slashed(front, scratch)? || questioned(front, scratch)? || lettered(front, scratch)?)
+    for ending in ENDINGS {
+        if completed(front, ending, scratch)? {
+            return Ok(true);
+        }
+    }
+    Ok(false)
 }
 
 /// How many bytes at the front a command may begin with: halved, as one that begins with more begins with less.
+// Not by `partition_point`: it asks the elements of a slice, and by a closure that can't fail.
 fn longest_front(heap: Global, typed: &[u8]) -> Result<usize, AllocError>
     ensures { IfOk result (λ n. Longest typed.now n) }
 {

@@ -14,7 +14,7 @@ use input::next_typed;
 use quoted::Quoted;
 use std::alloc::Global;
 use std::io;
-use std::io::BufReader;
+use std::io::{BufRead, BufReader};
 use typed::read;
 use words::Reading;
 
@@ -31,12 +31,11 @@ fn reading(heap: Global, typed: &[u8]) -> io::Result<String> {
 
 fn main(rt: HostRuntime) -> io::Result<()> {
     let heap = rt.alloc();
-    let mut input = BufReader::new(heap, rt.stdin())?;
-    let mut typed = Vec::new(heap);
+    let mut lines = BufReader::new(heap, rt.stdin())?.split(heap, b'\n');
     for _ in 0..u64::MAX {
-        if !next_typed(heap, &mut input, &mut typed)? {
+        let Some(typed) = next_typed(&mut lines)? else {
             break;
-        }
+        };
         rt.println(reading(heap, typed.as_slice())?)?;
     }
     Ok(())

@@ -10,7 +10,7 @@ use std::fmt;
 use typed::{Address, Command, Deed, Lines, Place, Range, Reach, Simple, Which};
 
 /// How many given lines are shown.
-const SHOWN: u64 = 3;
+const SHOWN: usize = 3;
 
 /// A pattern; an empty one is the last one given.
 #[derive(Clone, Copy)]
@@ -100,16 +100,10 @@ impl fmt::Display for Extent<'_> {
 struct Given<'a>(Lines<'a>);
 
 fn show_first<W: fmt::Write>(lines: Lines<'_>, f: &mut fmt::Formatter<W>) -> fmt::Result {
-    let mut rest = lines;
-    let mut before = " (";
-    for _ in 0..SHOWN {
-        let Some((line, behind)) = rest.split_first() else {
-            break;
-        };
+    for (n, line) in (0..SHOWN).map_while(|n| lines.nth(n)).enumerate() {
+        let before = if n == 0 { " (" } else { ", " };
         let line = Quoted(line);
         write!(f, "{before}\"{line}\"")?;
-        before = ", ";
-        rest = behind;
     }
     Ok(())
 }
@@ -123,7 +117,7 @@ impl fmt::Display for Given<'_> {
             n => write!(f, "{n} lines")?,
         }
         show_first(lines, f)?;
-        if lines.nth(3).is_some() {
+        if lines.nth(SHOWN).is_some() {
             f.write_str(", ...")?;
         }
         if !lines.all_short() {
@@ -250,24 +244,19 @@ fn default_for_each(deed: &Deed<'_>) -> Otherwise
     }
 }
 
-/// A simple command; `each` is for a line of a global command.
+/// A simple command, and what is meant where no range was typed.
 #[derive(Clone, Copy)]
 struct Sentence<'a> {
     simple: Simple<'a>,
-    each: bool,
+    otherwise: Otherwise,
 }
 
 impl fmt::Display for Sentence<'_> {
     fn fmt<W: fmt::Write>(&self, f: &mut fmt::Formatter<W>) -> fmt::Result {
-        let range = self.simple.range;
-        let deed = self.simple.deed;
+        let Simple { range, deed } = self.simple;
+        let otherwise = self.otherwise;
         let done = Done(deed);
         if takes_range(&deed) {
-            let otherwise = if self.each {
-                default_for_each(&deed)
-            } else {
-                default_range(&deed)
-            };
             let extent = Extent { range, otherwise };
             return write!(f, "{extent}, {done}");
         }
@@ -286,14 +275,10 @@ pub struct Reading<'a>(pub Command<'a>);
 impl fmt::Display for Reading<'_> {
     fn fmt<W: fmt::Write>(&self, f: &mut fmt::Formatter<W>) -> fmt::Result {
         match self.0 {
-            Command::Plain(simple) => write!(
-                f,
-                "{}",
-                Sentence {
-                    simple,
-                    each: false
-                }
-            ),
+            Command::Plain(simple) => {
+                let otherwise = default_range(&simple.deed);
+                write!(f, "{}", Sentence { simple, otherwise })
+            }
             Command::Global {
                 range,
                 matching,
@@ -305,7 +290,8 @@ impl fmt::Display for Reading<'_> {
                     otherwise: Otherwise::All,
                 };
                 let having = if matching { "with" } else { "without" };
-                let simple = Sentence { simple, each: true };
+                let otherwise = default_for_each(&simple.deed);
+                let simple = Sentence { simple, otherwise };
                 write!(
                     f,
                     "{extent}, for each {having} {}: {simple}",
