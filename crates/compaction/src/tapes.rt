@@ -14,7 +14,7 @@ ghost use Rattle.compaction.specs.Carry.{begin_other as other_begun, put_other a
 ghost use Rattle.compaction.specs.Laid.{laid};
 
 use crate::entries::{carry, go_on};
-use journal::{Also, Numbers, Splice};
+use journal::{Also, Numbers, Splice, generation_after};
 use memory::{Carrying, Kept, Phase, Registers, Tapes, file_at, file_name, weight_at};
 use protocol::Told;
 use records::{encode_commit, encode_head};
@@ -47,14 +47,6 @@ fn put_other(registers: &mut Registers) -> Told
     registers.phase = Phase::SettingUp;
     registers.tapes.other += 1;
     Told::Append(1 - registers.tapes.active)
-}
-
-/// Generations are 1, 2 and 3 in turn.
-fn generation_after(generation: u64) -> u64
-    requires { generation < 4294967296 }
-    ensures { result ≡ next_generation generation }
-{
-    if generation == 3 { 1 } else { generation + 1 }
 }
 
 /// The head of the other tape.

@@ -3,26 +3,11 @@
 use crate::clock::{Clock, Kind};
 use crate::fault::Fault;
 use crate::tape::{RECORD, Tape};
-use core_house::Told;
+use core_house::{Event, Told};
+use records::Record;
 use std::alloc::Global;
 use std::collections::BTreeMap;
 use std::time::Instant;
-
-/// The first byte of a page that is a line, a copy, a commit.
-const LINE: u8 = 2;
-
-const COPY: u8 = 3;
-
-const COMMIT: u8 = 4;
-
-/// What the house is told.
-#[derive(Clone, Copy)]
-enum Event {
-    Power = 0,
-    Command = 1,
-    Record = 2,
-    Next = 3,
-}
 
 /// Records that were read and put on for a command, and rows that were shown.
 #[derive(Clone, Copy, Default)]
@@ -51,10 +36,10 @@ fn kind_of(told: Told, row: &[u8]) -> Kind {
     match told {
         Told::Read(_) => Kind::Ask,
         Told::Shows(_) => Kind::Show,
-        Told::Append(_) => match row.first() {
-            Some(&LINE) => Kind::Line,
-            Some(&COPY) => Kind::Carry,
-            Some(&COMMIT) => Kind::Commit,
+        Told::Append(_) => match records::decode(row) {
+            Record::Line(_) => Kind::Line,
+            Record::Copy { .. } => Kind::Carry,
+            Record::Commit { .. } => Kind::Commit,
             _ => Kind::Other,
         },
         _ => Kind::Other,

@@ -9,12 +9,6 @@ use crate::due::{Due, Owner};
 use crate::kept::Kept;
 use records::{Numbers, PAGE, Piece, Record, Splice};
 
-/// Where the byte is that is 1 in every record that was written whole.
-const SEAL: usize = 511;
-
-/// The generation after which 1 comes again.
-const LAST_GENERATION: u32 = 3;
-
 /// How far one is in a file, and what the records so far say.
 #[derive(Default, Drop)]
 pub struct Tour {
@@ -23,13 +17,6 @@ pub struct Tour {
     generation: u32,
     due: Option<Due>,
     kept: Kept,
-}
-
-/// Whether a record was written whole.
-fn is_sealed(page: &[u8]) -> bool
-    ensures { result ≡ sealed page.now }
-{
-    page.len() >= PAGE && page[SEAL] == 1
 }
 
 impl Tour {
@@ -57,7 +44,7 @@ impl Tour {
                 wrong: Wrong::Torn,
             });
         }
-        if !is_sealed(page) {
+        if !records::is_whole(page) {
             self.seen = record.saturating_add(1);
             self.is_torn = true;
             return None;
@@ -105,7 +92,7 @@ impl Tour {
         if self.seen > 0 {
             return Err(Wrong::LateHead);
         }
-        if generation == 0 || generation > LAST_GENERATION {
+        if generation == 0 || u64::from(generation) > journal::LAST_GENERATION {
             return Err(Wrong::Generation);
         }
         self.generation = generation;

@@ -2,7 +2,7 @@
 //! run beside the plain house. Each law is the contract of a function that does nothing.
 #![tactic(auto)]
 
-ghost use Rattle.std.specs.Prelude.{◌≡◌, ◌==◌};
+ghost use Rattle.std.specs.Prelude.{◌≡◌, ◌<◌, ◌==◌};
 ghost use Rattle.journal.specs.Log.{choose, next_generation};
 ghost use Rattle.journal.specs.Tapes.{which_of};
 ghost use Rattle.journal.specs.Laws.{ApplyNatural, CommitAllAtOnce, CompactionKeepsLines, NoFullTape, StopKeepsState, TornTailUnseen, WithinGrant};
@@ -12,7 +12,7 @@ mod commit;
 pub use commit::{Also, Numbers, Source, Splice};
 
 /// The generation after which 1 comes again.
-const LAST_GENERATION: u32 = 3;
+pub const LAST_GENERATION: u64 = 3;
 
 /// A tape by its place on the device.
 #[derive(Clone, Copy)]
@@ -21,14 +21,23 @@ pub enum Tape {
     Second,
 }
 
-/// Whether a tape of generation `newer` was begun for compaction of one of generation `older`: generations are 1, 2 and 3 in turn.
+/// The generation behind one: they are 1, 2 and 3 in turn.
+pub fn generation_after(generation: u64) -> u64
+    requires { generation < 4294967296 }
+    ensures { result ≡ next_generation generation }
+{
+    if generation == LAST_GENERATION {
+        1
+    } else {
+        generation + 1
+    }
+}
+
+/// Whether a tape of generation `newer` was begun for compaction of one of generation `older`.
 fn follows(newer: u32, older: u32) -> bool
     ensures { result ≡ (newer == next_generation older) }
 {
-    if older == LAST_GENERATION {
-        return newer == 1;
-    }
-    newer > older && newer - older == 1
+    u64::from(newer) == generation_after(u64::from(older))
 }
 
 /// Which tape counts, by the generations that the heads of both name, 0 where there is no head: of two the older one, since the newer may not have everything
