@@ -1,6 +1,6 @@
 //! A command that was typed: what is decided about it, and how it begins.
 
-ghost use Rattle.std.specs.Prelude.{◌≡◌, ◌-◌, ◌<◌, ◌≤◌, length};
+ghost use Rattle.std.specs.Prelude.{◌≡◌, ◌-◌, ◌<◌, ◌≤◌, false, length};
 ghost use Rattle.typed.specs.Meaning.{lines_in, deed_of, simple_of};
 ghost use Rattle.journal.specs.Small.{Small};
 ghost use Rattle.commands.specs.Code.{plan_as};
@@ -8,6 +8,7 @@ ghost use Rattle.commands.specs.Turn.{lines_given as lines_typed, name_given as 
 ghost use Rattle.engine.specs.Machine.{went_at_once as gone_at_once};
 ghost use Rattle.memory.specs.Registers.{Tame};
 ghost use Rattle.memory.specs.Sections.{extended, name_kept};
+ghost use Rattle.commits.specs.Setters.{putting as nothing_put};
 ghost use Rattle.commits.specs.Acts.{Says};
 ghost use Rattle.commits.specs.Bounds.{Loose};
 ghost use Rattle.execution.specs.Obey.{few_of, begun, begun_memory, do_plan as planned, command as commanded, obey as obeyed};
@@ -90,6 +91,13 @@ fn went_at_once(plan: Plan, weight: u64) -> u64
     }
 }
 
+/// Nothing is put on.
+fn nothing_put() -> Putting
+    ensures { result ≡ nothing_put false false 0 0 }
+{
+    Putting::default()
+}
+
 /// The registers and the memory at the beginning of what is done for a command.
 fn begin_job(
     registers: &mut Registers,
@@ -119,7 +127,7 @@ fn begin_job(
         went: went_at_once(plan, registers.kept.weight),
         bytes: 0,
     };
-    registers.putting = Putting::default();
+    registers.putting = nothing_put();
 }
 
 /// What changes nothing is at its end; all else begins with the walk.

@@ -1,9 +1,9 @@
-use Rattle.std.proofs.Common.{◌≡◌, false, length, sym, refl, ap, ◌∙◌}
+use Rattle.std.proofs.Common.{◌≡◌, length, sym, refl, ap, ◌∙◌}
 use Rattle.typed.specs.Meaning.{simple_of}
 use Rattle.commands.specs.Turn.{name_given}
 use Rattle.memory.specs.Abstract.{small_of}
 use Rattle.memory.specs.Sections.{extended, name_kept}
-use Rattle.commits.specs.Setters.{job, walking, putting, with_job, with_walking, with_putting}
+use Rattle.commits.specs.Setters.{job, walking, with_job, with_walking, with_putting}
 use Rattle.execution.specs.Obey.{few_of, typed_text}
 use Rattle.execution.specs.Plans.{with_newlines, lines_kind}
 use Rattle.execution.proofs.Given.{plan-back}
@@ -22,7 +22,7 @@ returns c =
     let went = c.went_at_once.ensures (small_of r.kept m) refl in
     record {
       registers = λ i. with_job (job (sym (plan-back c.args.plan) i) (named i) c.args.size (kind i) (long i))
-          (with_walking (walking c.args.plan.span.after 0 (went i) 0) (with_putting (putting false false 0 0) r));
+          (with_walking (walking c.args.plan.span.after 0 (went i) 0) (with_putting (c.nothing_put-registers.ensures i) r));
       memory = c.keep_name-name.ensures.memory ∙ (λ i. name_kept (name i) (c.keep_text-text.ensures.memory i)) ∙ ap (λ t. name_kept (name_given s.deed) (extended 0 t m)) text;
       long = c.keep_name-name.ensures.long;
     }

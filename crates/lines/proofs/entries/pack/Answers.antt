@@ -2,9 +2,6 @@ use Rattle.lines.proofs.Packing.{masked, pack_add, pack_sub}
 use Rattle.lines.proofs.entries.pack.Goals as goal
 use Rattle.std.proofs.Common.{rules}
 
-pub overflow_sub-result : goal.overflow_sub-result
-overflow_sub-result c = search (rules, pack_sub)
-
 pub overflow_add-result : goal.overflow_add-result
 overflow_add-result c = search (rules, pack_add, masked)
 

@@ -11,6 +11,3 @@ loop-i-init c = search (rules, filled_none)
 
 pub loop-i-preserved : goal.loop-i-preserved
 loop-i-preserved c = search (rules, filled_more)
-
-pub returns : goal.returns
-returns c = search (rules, filled_all)
