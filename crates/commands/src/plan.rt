@@ -73,7 +73,8 @@ pub struct Plan {
     pub rows: Rows,
 }
 
-/// How many lines the text has, which is the current one, and how many lines all files have.
+/// How many lines the text has, which is the current one, and how many lines all files have. `SizesFit` is no invariant of it: what lines a command speaks
+/// of is promised for any sizes.
 #[derive(Clone, Copy)]
 pub struct Sizes {
     pub count: u64,
@@ -84,6 +85,7 @@ pub struct Sizes {
 /// Where a file is in the table of files, or where it would come: how many files and how many lines of theirs stand before it.
 #[derive(Clone, Copy)]
 pub struct Slot {
+    /// Whether it is there. No `Option` of its lines and size: a write takes out as many lines as stand there, which are 0 for a new file.
     pub found: bool,
     pub place: u64,
     pub before: u64,

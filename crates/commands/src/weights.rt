@@ -29,7 +29,9 @@ pub fn stand_size(count: u64, span: Span, went: u64, came: u64) -> u64
     requires went_bound { went < 1099511627776 }
     ensures { result ≡ stand_size count span.after span.upto went came }
 {
-    STAND + went + BREAK * (span.upto.saturating_sub(span.after) + u64::from(moves_on(count, span, came)))
+    STAND
+        + went
+        + BREAK * (span.upto.saturating_sub(span.after) + u64::from(moves_on(count, span, came)))
 }
 
 /// The weight of all that is kept after lines of the text were replaced, and what was before them in the ring dropped.

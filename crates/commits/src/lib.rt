@@ -1,4 +1,7 @@
 //! The end of a command: its lines and its commit are put on the tapes, and its last rows are shown.
+//!
+//! Here and in the crates above, registers, memory and row are lent side by side and not as one struct: what a function doesn't take, or takes as `&`, it
+//! can't change, and with one struct each contract would have to say so.
 #![tactic(auto)]
 
 mod commit;

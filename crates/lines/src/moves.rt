@@ -1,4 +1,4 @@
-//! Entries put in, taken out, copied and moved.
+//! Entries put in, taken out, copied and moved. Loops go over indices: three entries share a word, so there is no slice of them to go over.
 
 ghost use Rattle.std.specs.Prelude.{◌≡◌, ℕ, ◌+◌, ◌-◌, ◌≤◌, map, length, take, drop, IsErr, IsOk, Some, None, slice_range};
 ghost use Rattle.lines.specs.Moves.{Duplicates, Splices, copied, edited, reversed, rotated, spliced, swapped};

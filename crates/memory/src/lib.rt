@@ -46,7 +46,8 @@ pub use tapes::Tapes;
 pub use text::{copy_low, copy_out, extend, keep, line_end, text_cells};
 pub use walking::{Putting, Walking};
 
-/// How many numbers the memory has.
+/// How many numbers the memory has. It is lent as a slice, as `step` gets it, so its length stands in each contract: memory never grows, and no type of
+/// this crate owns it.
 pub const MEMORY: usize = 262_144;
 /// Where the ring begins, and how many weights it has room for.
 const RING: usize = 64;

@@ -1,4 +1,5 @@
-//! A plan in fifteen numbers.
+//! A plan in fifteen numbers, since the fixed memory holds nothing else: each enum is the number of its variant, and the numbers in it stand behind. No
+//! `From`, as neither the enums nor the numbers are of this crate.
 
 ghost use Rattle.std.specs.Prelude.{◌≡◌, ◌≤◌, length};
 ghost use Rattle.memory.specs.Numbers.{walk_of as walked, walk_number as step, update_of as updated, update_kind, update_place, rows_of as rowed, rows_kind, rows_value, source_by as sourced, source_kind, source_from, source_to};

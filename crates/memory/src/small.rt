@@ -89,7 +89,8 @@ pub fn oldest(memory: &[u64], ring: u64) -> u64
     }
 }
 
-/// A file in the table.
+/// A file in the table. How many there are (at most 64) is a number of `Kept`, as is the ring's, since the table lies in the fixed memory: so the
+/// functions below ask for that bound.
 #[derive(Clone, Copy)]
 pub struct File {
     /// How many bytes its name has.

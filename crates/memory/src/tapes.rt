@@ -14,7 +14,8 @@ pub struct Tapes {
     pub generation: u64,
     /// How many records are on it.
     pub used: u64,
-    /// Whether entries are being carried to the other tape.
+    /// Whether entries are being carried to the other tape. No `Option` of what stands below: each register has its place in the fixed memory, and
+    /// what it holds while nothing is carried is kept too.
     pub busy: bool,
     /// How many records are on that one.
     pub other: u64,

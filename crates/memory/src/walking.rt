@@ -47,7 +47,7 @@ impl Walking {
 pub struct Putting {
     /// Whether it is put on the other tape.
     pub second: bool,
-    /// Whether a line is left.
+    /// Whether a line is left; a register of its own in the fixed memory, so no `Option` of `at`.
     pub more: bool,
     /// Where the first line that is left begins in the text.
     pub at: u64,

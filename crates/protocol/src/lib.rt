@@ -37,7 +37,7 @@ impl TryFrom<u64> for Event {
     }
 }
 
-/// What the house wants done.
+/// What the house wants done. A tape is named by its number, 0 or 1, as is a record: an act is an enum of which some variants have numbers.
 #[derive(Clone, Copy)]
 pub enum Told {
     /// Read a record: twice its number, and the tape.

@@ -1,4 +1,4 @@
-//! Writing a page.
+//! Writing a page, over the front of a lent row, which has to be as long: no array, since the row is longer and is lent as a slice.
 ghost use Rattle.std.specs.Prelude.{◌≡◌, ℕ, ◌+◌, ◌-◌, ◌*◌, ◌%◌, ◌<◌, ◌≤◌, List, [], ◌∷◌, ◌++◌, length, drop, map, slice_set};
 ghost use Rattle.journal.specs.Log.{commit as a_commit, copy as a_copy, head as a_head, line as a_line, piece as a_piece, piece_in};
 ghost use Rattle.records.specs.Lines.{records_for, share};

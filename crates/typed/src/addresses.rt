@@ -1,4 +1,5 @@
-//! Addresses and ranges.
+//! Addresses and ranges. Each reader of bytes asks that they are fewer than 65,536, which keeps sums of steps within 64 bits; a type for so few bytes would
+//! have to be made anew from the rest that each slice pattern leaves.
 ghost use Rattle.std.specs.Prelude.{◌≡◌, ℕ, suc, ◌+◌, ◌<◌, ◌≤◌, [], length};
 ghost use Rattle.plain.specs.Pattern.{with_got};
 ghost use Rattle.plain.specs.Command.{up_to, base, offsets, an_address, starts_address, or_here, a_range};
@@ -45,7 +46,7 @@ pub enum Reach {
     All,
 }
 
-/// A range; an address that wasn't typed is the current line.
+/// A range: two addresses by value, and which of them were typed; one that wasn't is the current line. No `Option`, as each kind of range takes both.
 #[derive(Clone, Copy)]
 pub struct Range<'a> {
     pub reach: Reach,
