@@ -77,6 +77,13 @@ impl House {
             .ok_or(Refusal::NoLine)
     }
 
+    fn all(&self) -> Span {
+        Span {
+            from: 1,
+            to: self.count(),
+        }
+    }
+
     /// What a deed takes where no range is said.
     fn usual(&self, deed: Deed<'_>) -> Span {
         let next = self.current.saturating_add(1);
@@ -86,10 +93,7 @@ impl House {
                 to: next,
             },
             Deed::Place => Span::one(self.count()),
-            Deed::Save(_) => Span {
-                from: 1,
-                to: self.count(),
-            },
+            Deed::Save(_) => self.all(),
             Deed::GoTo => Span::one(next),
             _ => Span::one(self.current),
         }
@@ -100,10 +104,7 @@ impl House {
             return Ok(self.usual(command.deed));
         };
         let span = match range {
-            Range::All => return Ok(Span {
-                from: 1,
-                to: self.count(),
-            }),
+            Range::All => return Ok(self.all()),
             Range::One(first) => Span::one(self.place(self.current, first)?),
             Range::Both(first, second) => Span {
                 from: self.place(self.current, first)?,

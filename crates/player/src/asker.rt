@@ -20,7 +20,7 @@ const HEAVIEST: u64 = model::LINE + model::MOST_BYTES as u64;
 pub struct Asker {
     heap: Global,
     machine: Machine,
-    asked: u64,
+    asked: Saturating<u64>,
     pub comparisons: Saturating<u64>,
 }
 
@@ -70,7 +70,7 @@ impl Asker {
         Ok(Asker {
             heap,
             machine: Machine::new(heap)?,
-            asked: 0,
+            asked: Saturating(0),
             comparisons: Saturating(0),
         })
     }
@@ -91,7 +91,7 @@ impl Asker {
             return Ok(Vec::new(self.heap));
         };
         let files = house.files.as_slice();
-        let turn = self.asked.checked_rem(files.len() as u64).unwrap_or(0);
+        let turn = self.asked.0.checked_rem(files.len() as u64).unwrap_or(0);
         let (before, behind) = files.split_at(files.len().min(turn as usize));
         behind
             .iter()
@@ -128,7 +128,7 @@ impl Asker {
         self.put(woken, b"f")?;
         self.put(woken, b"%n")?;
         self.ask_files(woken)?;
-        if self.asked % SCALE_EACH == 0 {
+        if self.asked.0 % SCALE_EACH == 0 {
             self.measure(woken)?;
         }
         Ok(())
@@ -136,7 +136,7 @@ impl Asker {
 
     /// Whether a machine that is woken on this device is one of these houses; a difference where it is none.
     pub fn wakes_as(&mut self, device: Device, guess: &Guess) -> Result<(), Fault> {
-        self.asked = self.asked.saturating_add(1);
+        self.asked += 1;
         let guess = guess.clone()?;
         let mut woken = Woken { device, guess };
         let ran = self.machine.wake(&mut woken.device, MANY)?;

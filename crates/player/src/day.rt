@@ -23,6 +23,8 @@ pub enum Scene {
 
 #[derive(Clone, Drop)]
 pub struct Day {
+    /// Where all of it lies.
+    pub heap: Global,
     pub room: u64,
     pub scenes: Vec<Scene>,
 }
@@ -76,7 +78,6 @@ fn give(text: &mut Vec<u8>, line: &[u8]) -> Result<(), Fault> {
 /// A day that is being read: the stop said before the next command, and a command whose lines are being given.
 #[derive(Drop)]
 struct Reading {
-    heap: Global,
     day: Day,
     stop: Option<Stop>,
     open: Option<Vec<u8>>,
@@ -106,7 +107,7 @@ impl Reading {
 
     /// A line that says what happens beside typing.
     fn direct(&mut self, number: u64, line: &[u8]) -> Result<(), Fault> {
-        let numbers = numbers(self.heap, line)?;
+        let numbers = numbers(self.day.heap, line)?;
         let numbers = numbers.as_slice();
         if line.starts_with(b"!room ") {
             self.day.room = nth(numbers, 0);
@@ -135,7 +136,7 @@ impl Reading {
             }
             None if line.starts_with(b"!") => self.direct(number, line),
             None => {
-                let text = Vec::from_slice(self.heap, line)?;
+                let text = Vec::from_slice(self.day.heap, line)?;
                 if model::takes_lines(line) {
                     self.open = Some(text);
                     Ok(())
@@ -150,7 +151,6 @@ impl Reading {
 /// A day, read from its lines.
 pub fn read(heap: Global, text: &[u8]) -> Result<Day, Fault> {
     let mut reading = Reading {
-        heap,
         day: Day::new(heap, USUAL_ROOM),
         stop: None,
         open: None,
@@ -205,6 +205,7 @@ impl Day {
     /// A day without scenes.
     pub fn new(heap: Global, room: u64) -> Day {
         Day {
+            heap,
             room,
             scenes: Vec::new(heap),
         }
@@ -221,15 +222,16 @@ impl Day {
     }
 
     /// The same without the scenes from one on, so many.
-    pub fn without(&self, heap: Global, from: usize, count: usize) -> Result<Day, AllocError> {
+    pub fn without(&self, from: usize, count: usize) -> Result<Day, AllocError> {
         let front = self.scenes.iter().take(from);
         let rest = self.scenes.iter().skip(from.saturating_add(count));
         Ok(Day {
+            heap: self.heap,
             room: self.room,
             scenes: front
                 .chain(rest)
                 .map(|scene| scene.clone())
-                .try_collect(heap)?,
+                .try_collect(self.heap)?,
         })
     }
 }

@@ -8,6 +8,7 @@ use crate::machine::{Cue, MANY, Machine, Ran};
 use crate::stage::{Counts, Stage};
 use crate::tape::{Device, Stays, Stop};
 use std::alloc::{AllocError, Global};
+use std::num::Saturating;
 
 /// More combinations than these are thinned out.
 const MOST_CHOICES: usize = 16;
@@ -28,7 +29,7 @@ struct Trials {
     stage: Stage,
     asker: Asker,
     waking: Machine,
-    tried: u64,
+    tried: Saturating<u64>,
 }
 
 /// What may be left of so many loose records: none, one, all but one, all; and half of the next.
@@ -68,7 +69,7 @@ impl Trials {
             stage: Stage::new(heap, room)?,
             asker: Asker::new(heap)?,
             waking: Machine::new(heap)?,
-            tried: 0,
+            tried: Saturating(0),
         })
     }
 
@@ -99,10 +100,10 @@ impl Trials {
             }
             let before = device.changes;
             self.waking.act(&mut device, &mut ran)?;
-            let is_some = device.changes != before && ran.acts % SOME_ACTS == 0;
-            if device.turns != seen || is_some || ran.acts <= FIRST_ACTS {
+            let is_some = device.changes != before && ran.acts.0 % SOME_ACTS == 0;
+            if device.turns != seen || is_some || ran.acts.0 <= FIRST_ACTS {
                 seen = device.turns;
-                self.stop_waking(&device, ran.acts, guess)?;
+                self.stop_waking(&device, ran.acts.0, guess)?;
             }
         }
         Ok(())
@@ -110,7 +111,7 @@ impl Trials {
 
     /// One stop, and what a machine knows that is woken then.
     fn try_stop(&mut self, stop: Stop, guess: &Guess) -> Result<(), Fault> {
-        self.tried = self.tried.saturating_add(1);
+        self.tried += 1;
         self.stage.counts.stops += 1;
         let left = self.stage.device.left(stop)?;
         let each = if left.is_longer_than(LONG) {
@@ -118,7 +119,7 @@ impl Trials {
         } else {
             WAKE_EACH
         };
-        if self.tried % each == 0 {
+        if self.tried.0 % each == 0 {
             self.wake_with_stops(left.clone()?, guess)?;
         }
         self.asker.wakes_as(left, guess)
@@ -132,7 +133,7 @@ impl Trials {
         } else {
             1
         };
-        for (turn, stays) in (self.tried.saturating_add(1)..).zip(combinations) {
+        for (turn, stays) in (self.tried.0.saturating_add(1)..).zip(combinations) {
             if turn % each == 0 {
                 let stop = Stop { acts, stays };
                 self.try_stop(stop, guess)
@@ -155,13 +156,13 @@ impl Trials {
             let changes = Some(self.stage.device.changes);
             if seen != changes {
                 seen = changes;
-                self.try_stops(ran.acts, &either)?;
+                self.try_stops(ran.acts.0, &either)?;
             }
             self.stage.machine.act(&mut self.stage.device, &mut ran)?;
         }
         self.stage.settle(text, &ran)?;
         let after = self.stage.guess.clone()?;
-        self.try_stops(ran.acts, &after)
+        self.try_stops(ran.acts.0, &after)
     }
 
     /// The first power, with all its stops.
@@ -180,7 +181,7 @@ impl Trials {
 }
 
 /// The day up to a difference, with the stops that show it.
-pub fn shown(heap: Global, day: &Day, trail: Trail) -> Result<Day, Fault> {
+pub fn shown(day: &Day, trail: Trail) -> Result<Day, Fault> {
     let count = trail.scene.map_or(0, |index| index.saturating_add(1));
     let mut shown = day.clone()?;
     shown.scenes.truncate(count);
@@ -194,8 +195,8 @@ pub fn shown(heap: Global, day: &Day, trail: Trail) -> Result<Day, Fault> {
 }
 
 /// A day with every stop tried.
-pub fn every(heap: Global, day: &Day) -> Result<Counts, Fault> {
-    let mut trials = Trials::new(heap, day.room)?;
+pub fn every(day: &Day) -> Result<Counts, Fault> {
+    let mut trials = Trials::new(day.heap, day.room)?;
     let mut is_watched = !day.scenes.iter().any(|scene| matches!(scene, Scene::Watch));
     if is_watched {
         trials.first_power()?;

@@ -1,6 +1,7 @@
 //! Why the program ends early.
 
 use crate::tape::Stop;
+use model::NoRefusal;
 use std::alloc::{AllocError, AllocFailed};
 use std::num::ParseIntError;
 use std::{fmt, io};
@@ -78,6 +79,13 @@ impl From<AllocError> for Fault {
 impl<T: Drop> From<AllocFailed<T>> for Fault {
     fn from(_error: AllocFailed<T>) -> Fault {
         Fault::Memory
+    }
+}
+
+/// The plain house refuses nothing with such a number.
+impl From<NoRefusal> for Fault {
+    fn from(_number: NoRefusal) -> Fault {
+        Fault::difference()
     }
 }
 

@@ -14,7 +14,7 @@ pub struct Guess {
 
 /// Whether the house did what the plain house does.
 fn agrees(turn: &Turn, ran: &Ran<'_>) -> bool {
-    turn.most_records.is_none_or(|most| ran.records <= most)
+    turn.most_records.is_none_or(|most| ran.records.0 <= most)
         && ran.end == Some(turn.end)
         && ran.rows == turn.rows
 }

@@ -5,8 +5,9 @@ use crate::tape::{Device, RECORD};
 use core_house::Told;
 use model::Refusal;
 use std::alloc::{AllocError, Global};
+use std::num::Saturating;
 
-/// More acts than any command has.
+/// More acts than any command has. It is what ends a loop over acts: nothing says here that a command comes to its end.
 pub const MANY: u64 = 100_000_000;
 
 /// What the house is told.
@@ -32,8 +33,8 @@ pub enum Cue<'a> {
 #[derive(Drop)]
 pub struct Ran<'a> {
     pub rows: Vec<Vec<u8>>,
-    pub acts: u64,
-    pub records: u64,
+    pub acts: Saturating<u64>,
+    pub records: Saturating<u64>,
     pub end: Option<Result<(), Refusal>>,
     cue: Cue<'a>,
 }
@@ -42,8 +43,8 @@ impl<'a> Ran<'a> {
     pub fn new(heap: Global, cue: Cue<'a>) -> Ran<'a> {
         Ran {
             rows: Vec::new(heap),
-            acts: 0,
-            records: 0,
+            acts: Saturating(0),
+            records: Saturating(0),
             end: None,
             cue,
         }
@@ -99,17 +100,17 @@ impl Machine {
     /// One act more. What no device can do, and a number that is no refusal, is a difference.
     pub fn act(&mut self, device: &mut Device, ran: &mut Ran<'_>) -> Result<(), Fault> {
         let told = self.tell(device, ran.cue);
-        ran.acts = ran.acts.saturating_add(1);
-        if let Told::Read(_) | Told::Append(_) = told {
-            ran.records = ran.records.saturating_add(1);
-        }
-        ran.cue = match told {
-            Told::Read(which) => Cue::Record(which),
-            _ => Cue::Next,
-        };
+        ran.acts += 1;
+        ran.cue = Cue::Next;
         match told {
-            Told::Read(_) => {}
-            Told::Append(tape) => device.append(tape, self.front(RECORD))?,
+            Told::Read(which) => {
+                ran.cue = Cue::Record(which);
+                ran.records += 1;
+            }
+            Told::Append(tape) => {
+                device.append(tape, self.front(RECORD))?;
+                ran.records += 1;
+            }
             Told::Fasten(tape) => device.fasten(tape)?,
             Told::Begin(tape) => device.begin(tape)?,
             Told::Shows(len) => {
@@ -117,10 +118,7 @@ impl Machine {
                 ran.rows.push(row)?;
             }
             Told::Done => ran.end = Some(Ok(())),
-            Told::No(number) => {
-                let why = Refusal::try_from(number).map_err(|_| Fault::difference())?;
-                ran.end = Some(Err(why));
-            }
+            Told::No(number) => ran.end = Some(Err(Refusal::try_from(number)?)),
         }
         Ok(())
     }

@@ -22,39 +22,34 @@ mod tape;
 
 /// A day that shows a difference is printed as short as it can be found.
 fn print_short(rt: &HostRuntime, day: &Day) -> Result<(), Fault> {
-    stage::shortened(rt.alloc(), day)?.write(&mut rt.stdout())
+    stage::shortened(day)?.write(&mut rt.stdout())
 }
 
-/// What was tried.
-fn tell(rt: &HostRuntime, name: &str, counts: Counts) -> Result<(), Fault> {
+/// What was tried, which is told.
+fn told(rt: &HostRuntime, name: &str, counts: Counts) -> Result<Counts, Fault> {
     println!(rt; "{name}:\n{counts}")?;
-    Ok(())
+    Ok(counts)
 }
 
 fn play_once(rt: &HostRuntime, name: &str, day: &Day) -> Result<Counts, Fault> {
-    let played = stage::play(rt.alloc(), day);
+    let played = stage::play(day);
     if let Err(Fault::Differs(_)) = &played {
         print_short(rt, day)?;
     }
-    let counts = played?;
-    tell(rt, name, counts)?;
-    Ok(counts)
+    told(rt, name, played?)
 }
 
 fn play_every(rt: &HostRuntime, name: &str, day: &Day) -> Result<Counts, Fault> {
-    let heap = rt.alloc();
-    let played = every::every(heap, day);
+    let played = every::every(day);
     if let Err(Fault::Differs(trail)) = &played {
         println!(rt; "{name}:")?;
-        print_short(rt, &every::shown(heap, day, *trail)?)?;
+        print_short(rt, &every::shown(day, *trail)?)?;
     }
-    let counts = played?;
-    tell(rt, name, counts)?;
-    Ok(counts)
+    told(rt, name, played?)
 }
 
 /// The days that are always played.
-fn all(rt: &HostRuntime) -> Result<(), Fault> {
+fn all(rt: &HostRuntime) -> Result<Counts, Fault> {
     let heap = rt.alloc();
     let mut counts = Counts::default();
     for known in days::DAYS {
@@ -76,7 +71,7 @@ fn all(rt: &HostRuntime) -> Result<(), Fault> {
         let name = format!(in heap; "random {seed}, room {room}")?;
         counts += play_once(rt, name.as_str(), &chance.day(heap)?)?;
     }
-    tell(rt, "all", counts)
+    told(rt, "all", counts)
 }
 
 fn file(rt: &HostRuntime, name: &String) -> Result<Day, Fault> {
@@ -104,17 +99,17 @@ fn obey(rt: &HostRuntime, verb: &str, words: &[String]) -> Result<Counts, Fault>
     }
 }
 
-fn run(rt: &HostRuntime) -> Result<(), Fault> {
+fn run(rt: &HostRuntime) -> Result<Counts, Fault> {
     let words: Vec<String> = env::args(rt)?.skip(1).collect(rt.alloc())?;
     match words.as_slice() {
         [] => all(rt),
-        [verb, words @ ..] => obey(rt, verb.as_str(), words).map(|_| ()),
+        [verb, words @ ..] => obey(rt, verb.as_str(), words),
     }
 }
 
 fn main(rt: HostRuntime) -> ExitCode {
     match run(&rt) {
-        Ok(()) => ExitCode::SUCCESS,
+        Ok(_) => ExitCode::SUCCESS,
         Err(fault) => {
             let _ = eprintln!(rt; "player: {fault}");
             ExitCode::FAILURE

@@ -54,7 +54,6 @@ impl fmt::Display for Counts {
 
 #[derive(Drop)]
 pub struct Stage {
-    pub heap: Global,
     pub machine: Machine,
     pub device: Device,
     pub guess: Guess,
@@ -70,7 +69,6 @@ fn most_acts(stop: Option<Stop>) -> u64 {
 impl Stage {
     pub fn new(heap: Global, room: u64) -> Result<Stage, Fault> {
         Ok(Stage {
-            heap,
             machine: Machine::new(heap)?,
             device: Device::new(heap, room),
             guess: Guess::new(heap, room)?,
@@ -156,9 +154,9 @@ impl Stage {
 }
 
 /// A day from its beginning.
-pub fn play(heap: Global, day: &Day) -> Result<Counts, Fault> {
-    let mut stage = Stage::new(heap, day.room)?;
-    let mut asker = Asker::new(heap)?;
+pub fn play(day: &Day) -> Result<Counts, Fault> {
+    let mut stage = Stage::new(day.heap, day.room)?;
+    let mut asker = Asker::new(day.heap)?;
     for (index, scene) in day.scenes.iter().enumerate() {
         stage
             .play(scene, &mut asker)
@@ -168,28 +166,29 @@ pub fn play(heap: Global, day: &Day) -> Result<Counts, Fault> {
 }
 
 /// At which scene a day shows a difference, if it shows one.
-fn differs_at(heap: Global, day: &Day) -> Result<Option<usize>, Fault> {
-    match play(heap, day) {
+fn differs_at(day: &Day) -> Result<Option<usize>, Fault> {
+    match play(day) {
         Err(Fault::Differs(trail)) => Ok(trail.scene),
         played => played.map(|_| None),
     }
 }
 
 /// A day that still shows a difference, once without what comes after it and without parts of so many scenes, the last first.
-fn thinned(heap: Global, day: &Day, size: usize) -> Result<Day, Fault> {
+fn thinned(day: &Day, size: usize) -> Result<Day, Fault> {
     let size = size.max(1);
     let mut short = day.clone()?;
     let mut from = short.scenes.len();
+    // Where the next part begins depends on what was found, so the count only ends it.
     for _ in 0..day.scenes.len() {
-        if let Some(index) = differs_at(heap, &short)? {
+        if let Some(index) = differs_at(&short)? {
             short.scenes.truncate(index.saturating_add(1));
         }
         if from == 0 {
             break;
         }
         from = from.min(short.scenes.len()).saturating_sub(size);
-        let shorter = short.without(heap, from, size)?;
-        if differs_at(heap, &shorter)?.is_some() {
+        let shorter = short.without(from, size)?;
+        if differs_at(&shorter)?.is_some() {
             short = shorter;
         }
     }
@@ -197,11 +196,11 @@ fn thinned(heap: Global, day: &Day, size: usize) -> Result<Day, Fault> {
 }
 
 /// The shortest day found that still shows a difference: without what comes after it, then without ever smaller parts.
-pub fn shortened(heap: Global, day: &Day) -> Result<Day, Fault> {
+pub fn shortened(day: &Day) -> Result<Day, Fault> {
     let mut short = day.clone()?;
     for shift in 0..usize::BITS {
         let size = day.scenes.len() >> shift;
-        short = thinned(heap, &short, size)?;
+        short = thinned(&short, size)?;
         if size == 0 {
             break;
         }
