@@ -6,7 +6,7 @@ use crate::refusal::{Halt, Refusal};
 use std::alloc::{AllocError, Global};
 
 /// How many bytes a line has at most.
-pub const MOST_BYTES: usize = 1_024;
+pub const LONGEST: usize = 1_024;
 /// How many files there are at most.
 const MOST_FILES: usize = 64;
 
@@ -45,7 +45,7 @@ fn eight(heap: Global, number: u64) -> Result<Vec<u8>, AllocError> {
 
 /// The line that is no longer than it may be.
 fn fitting(line: &[u8]) -> Result<&[u8], Refusal> {
-    if line.len() > MOST_BYTES {
+    if line.len() > LONGEST {
         Err(Refusal::TooLong)
     } else {
         Ok(line)

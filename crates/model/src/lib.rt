@@ -8,7 +8,7 @@ mod house;
 mod reading;
 mod refusal;
 
-pub use deeds::MOST_BYTES;
+pub use deeds::LONGEST;
 pub use house::{File, House, LINE, Turn};
 use reading::Deed;
 pub use refusal::{NoRefusal, Refusal};

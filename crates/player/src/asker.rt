@@ -14,7 +14,7 @@ const FILES: usize = 3;
 /// Each such time the room is measured too.
 const SCALE_EACH: u64 = 8;
 /// What the heaviest line weighs.
-const HEAVIEST: u64 = model::LINE + model::MOST_BYTES as u64;
+const HEAVIEST: u64 = model::LINE + model::LONGEST as u64;
 
 #[derive(Drop)]
 pub struct Asker {
