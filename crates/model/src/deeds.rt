@@ -287,7 +287,7 @@ impl House {
     }
 
     /// What a command of the core does, where it isn't refused and there is room.
-    pub fn done(&self, command: Command<'_>) -> Result<Done, Halt> {
+    pub(crate) fn done(&self, command: Command<'_>) -> Result<Done, Halt> {
         match command.deed {
             Deed::Append(given) => self.append(self.lines_of(command)?, self.given_lines(given)?),
             Deed::Insert(given) => self.insert(self.lines_of(command)?, self.given_lines(given)?),
@@ -306,7 +306,7 @@ impl House {
     }
 
     /// How many records a command may read and put on, but for the rows that it shows; none where that isn't bounded.
-    pub fn most_records(&self, command: Command<'_>) -> Option<u64> {
+    pub(crate) fn most_records(&self, command: Command<'_>) -> Option<u64> {
         let given = match command.deed {
             Deed::Append(given) | Deed::Insert(given) | Deed::Change(given) => given_count(given),
             Deed::Save(_) | Deed::Edit(_) | Deed::Files => return None,

@@ -102,7 +102,7 @@ impl House {
     }
 
     /// The lines behind the first `from` up to the `to`th.
-    pub fn between(&self, from: usize, to: usize) -> &[Vec<u8>] {
+    pub(crate) fn between(&self, from: usize, to: usize) -> &[Vec<u8>] {
         self.lines.as_slice().get(from..to).unwrap_or(&[])
     }
 
