@@ -1,12 +1,13 @@
 //! The state of a plain house, what it weighs, and one turn of it.
 
+use crate::reading;
 use crate::reading::Command;
 use crate::refusal::{Halt, Refusal};
-use crate::{deeds, reading};
 use std::alloc::{AllocError, Global};
+use std::num::Saturating;
 
 /// What a line weighs beside its bytes.
-const LINE: u64 = 64;
+pub const LINE: u64 = 64;
 /// What a file weighs beside its name and its lines.
 const FILE: u64 = 128;
 /// What an earlier text weighs beside what is gone since.
@@ -15,6 +16,8 @@ const EARLIER: u64 = 256;
 const MOST_EARLIER: usize = 64;
 /// How much each record of a tape may carry.
 const SHARE: u64 = 32;
+/// How many records a command may use by itself, and for each line that it has to do with.
+pub const RECORDS_EACH: u64 = 256;
 
 /// A file: a name and its lines.
 #[derive(Clone, PartialEq, Drop)]
@@ -26,40 +29,50 @@ pub struct File {
 /// A text, the current line, counted from 1, or 0; the files; and what each change before weighs, the oldest first.
 #[derive(Clone, PartialEq, Drop)]
 pub struct House {
+    /// Where all of it lies.
+    pub(crate) heap: Global,
     pub lines: Vec<Vec<u8>>,
     pub current: u64,
     pub files: Vec<File>,
     pub earlier: Vec<u64>,
 }
 
-/// What a command comes to: why it is refused, if it is; the rows shown; the house then; and how many records it may read and put on, if that is
+/// The house after a command, and the rows that it shows.
+#[derive(Drop)]
+pub struct Done {
+    pub next: House,
+    pub rows: Vec<Vec<u8>>,
+}
+
+/// What a command comes to: whether it is done, or why not; the rows shown; the house then; and how many records it may read and put on, if that is
 /// bounded.
 #[derive(Drop)]
 pub struct Turn {
-    pub refusal: Option<Refusal>,
+    pub end: Result<(), Refusal>,
     pub rows: Vec<Vec<u8>>,
     pub next: House,
     pub most_records: Option<u64>,
 }
 
-impl Turn {
-    /// The number that is told at the end, 0 where it is done.
-    pub fn number(&self) -> u64 {
-        self.refusal.map_or(0, |refusal| refusal as u64)
-    }
+/// What lines weigh.
+fn lines_weight(lines: &[Vec<u8>]) -> Saturating<u64> {
+    lines
+        .iter()
+        .map(|line| Saturating(LINE) + Saturating(line.len() as u64))
+        .sum()
 }
 
-/// What lines weigh.
-fn lines_weight(lines: &Vec<Vec<u8>>) -> u64 {
-    lines.iter().fold(0, |sum: u64, line| {
-        sum.saturating_add(LINE).saturating_add(line.len() as u64)
-    })
+impl File {
+    fn weight(&self) -> Saturating<u64> {
+        Saturating(FILE) + Saturating(self.name.len() as u64) + lines_weight(self.lines.as_slice())
+    }
 }
 
 impl House {
     /// No line, no file.
     pub fn new(heap: Global) -> House {
         House {
+            heap,
             lines: Vec::new(heap),
             current: 0,
             files: Vec::new(heap),
@@ -69,84 +82,75 @@ impl House {
 
     /// What there is to keep.
     pub fn weight(&self) -> u64 {
-        let mut sum = lines_weight(&self.lines);
-        for file in self.files.iter() {
-            let name = file.name.len() as u64;
-            sum = sum.saturating_add(FILE).saturating_add(name);
-            sum = sum.saturating_add(lines_weight(&file.lines));
-        }
-        for stand in self.earlier.iter() {
-            sum = sum.saturating_add(*stand);
-        }
-        sum
+        let files: Saturating<u64> = self.files.iter().map(|file| file.weight()).sum();
+        let earlier: Saturating<u64> = self.earlier.iter().copied().map(Saturating).sum();
+        (lines_weight(self.lines.as_slice()) + files + earlier).0
+    }
+
+    /// How much lines behind the last may weigh for it to be just full, on tapes of so much room.
+    pub fn slack(&self, room: u64) -> u64 {
+        let forgotten = if self.earlier.len() < MOST_EARLIER {
+            0
+        } else {
+            self.earlier.first().copied().unwrap_or(0)
+        };
+        let kept = self
+            .weight()
+            .saturating_add(EARLIER)
+            .saturating_sub(forgotten);
+        SHARE.saturating_mul(room).saturating_sub(kept)
+    }
+
+    /// The lines behind the first `from` up to the `to`th.
+    pub(crate) fn between(&self, from: usize, to: usize) -> &[Vec<u8>] {
+        self.lines.as_slice().get(from..to).unwrap_or(&[])
     }
 
     /// What this text weighs once the lines behind the first `from` up to the `to`th gave way to so many others.
     fn stand_weight(&self, from: usize, to: usize, others: usize) -> u64 {
-        let mut sum = EARLIER;
-        let mut breaks: u64 = 0;
-        for line in self.lines.iter().take(to).skip(from) {
-            sum = sum.saturating_add(LINE).saturating_add(line.len() as u64);
-            breaks = breaks.saturating_add(1);
-        }
-        if to < self.lines.len() && (from < to || others > 0) {
-            breaks = breaks.saturating_add(1);
-        }
-        sum.saturating_add(LINE.saturating_mul(breaks))
+        let gone = self.between(from, to);
+        let is_inside = to < self.lines.len() && (from < to || others > 0);
+        let breaks = gone.len().saturating_add(usize::from(is_inside)) as u64;
+        (Saturating(EARLIER) + lines_weight(gone) + Saturating(LINE) * Saturating(breaks)).0
     }
 
     /// The earlier texts' weights with one more, without the oldest where there are too many.
-    fn remembered(&self, heap: Global, weight: u64) -> Result<Vec<u64>, AllocError> {
-        let mut earlier = Vec::new(heap);
+    fn remembered(&self, weight: u64) -> Result<Vec<u64>, AllocError> {
         let surplus = self
             .earlier
             .len()
             .saturating_add(1)
             .saturating_sub(MOST_EARLIER);
-        for old in self.earlier.iter().skip(surplus) {
-            earlier.push(*old)?;
-        }
-        earlier.push(weight)?;
-        Ok(earlier)
+        self.earlier
+            .iter()
+            .copied()
+            .skip(surplus)
+            .chain([weight])
+            .collect(self.heap)
     }
 
     /// The house with other lines in place of those behind the first `from` up to the `to`th, and a current line.
     pub fn replaced(
         &self,
-        heap: Global,
         from: u64,
         to: u64,
         others: Vec<Vec<u8>>,
         current: u64,
     ) -> Result<House, AllocError> {
-        let (from, to) = (from as usize, to as usize);
+        let mut next = self.at(current)?;
+        let to = next.lines.len().min(to as usize);
+        let from = to.min(from as usize);
         let weight = self.stand_weight(from, to, others.len());
-        let mut lines = Vec::new(heap);
-        for line in self.lines.iter().take(from) {
-            lines.push(line.clone()?)?;
-        }
-        for line in others {
-            lines.push(line)?;
-        }
-        for line in self.lines.iter().skip(to) {
-            lines.push(line.clone()?)?;
-        }
-        Ok(House {
-            lines,
-            current,
-            files: self.files.clone()?,
-            earlier: self.remembered(heap, weight)?,
-        })
+        next.earlier = self.remembered(weight)?;
+        next.lines.splice(from..to, others)?;
+        Ok(next)
     }
 
     /// The same with another current line.
     pub fn at(&self, current: u64) -> Result<House, AllocError> {
-        Ok(House {
-            lines: self.lines.clone()?,
-            current,
-            files: self.files.clone()?,
-            earlier: self.earlier.clone()?,
-        })
+        let mut next = self.clone()?;
+        next.current = current;
+        Ok(next)
     }
 
     /// The lines of a file.
@@ -157,48 +161,42 @@ impl House {
             .map(|file| &file.lines)
     }
 
-    fn refused(
-        &self,
-        heap: Global,
-        why: Refusal,
-        most_records: Option<u64>,
-    ) -> Result<Turn, AllocError> {
+    fn refused(&self, why: Refusal, most_records: Option<u64>) -> Result<Turn, AllocError> {
         Ok(Turn {
-            refusal: Some(why),
-            rows: Vec::new(heap),
+            end: Err(why),
+            rows: Vec::new(self.heap),
             next: self.clone()?,
             most_records,
         })
     }
 
     /// What a command of the core comes to, where there is room for what is to be kept then.
-    fn obey(&self, heap: Global, room: u64, command: Command<'_>) -> Result<Turn, AllocError> {
-        let most = deeds::most_records(self, command);
-        match deeds::obey(self, heap, command) {
-            Ok((next, rows)) => {
-                let weight = next.weight();
-                if weight > self.weight() && weight > SHARE.saturating_mul(room) {
-                    return self.refused(heap, Refusal::NoRoom, None);
-                }
-                let shown = (rows.len() as u64).saturating_mul(deeds::RECORDS_EACH);
-                Ok(Turn {
-                    refusal: None,
-                    rows,
-                    next,
-                    most_records: most.map(|most| most.saturating_add(shown)),
-                })
-            }
-            Err(Halt::Refused(why)) => self.refused(heap, why, most),
-            Err(Halt::Memory(error)) => Err(error),
+    fn obey(&self, room: u64, command: Command<'_>) -> Result<Turn, AllocError> {
+        let most = self.most_records(command);
+        let Done { next, rows } = match self.done(command) {
+            Ok(done) => done,
+            Err(Halt::Refused(why)) => return self.refused(why, most),
+            Err(Halt::Memory(error)) => return Err(error),
+        };
+        let weight = next.weight();
+        if weight > self.weight() && weight > SHARE.saturating_mul(room) {
+            return self.refused(Refusal::NoRoom, None);
         }
+        let shown = (rows.len() as u64).saturating_mul(RECORDS_EACH);
+        Ok(Turn {
+            end: Ok(()),
+            rows,
+            next,
+            most_records: most.map(|most| most.saturating_add(shown)),
+        })
     }
 
     /// What is typed, on tapes of so much room.
-    pub fn turn(&self, heap: Global, room: u64, typed: &[u8]) -> Result<Turn, AllocError> {
+    pub fn turn(&self, room: u64, typed: &[u8]) -> Result<Turn, AllocError> {
         match reading::read(typed) {
-            None => self.refused(heap, Refusal::Unreadable, None),
-            Some(command) if !command.is_core() => self.refused(heap, Refusal::Unknown, None),
-            Some(command) => self.obey(heap, room, command),
+            None => self.refused(Refusal::Unreadable, None),
+            Some(command) if !command.is_core() => self.refused(Refusal::Unknown, None),
+            Some(command) => self.obey(room, command),
         }
     }
 }

@@ -8,17 +8,17 @@ mod house;
 mod reading;
 mod refusal;
 
-pub use house::{File, House, Turn};
+pub use deeds::LONGEST;
+pub use house::{File, House, LINE, Turn};
 use reading::Deed;
-pub use refusal::Refusal;
+pub use refusal::{NoRefusal, Refusal};
 
 /// Whether lines are typed behind a command line.
 pub fn takes_lines(line: &[u8]) -> bool {
-    match reading::read(line) {
-        Some(command) => matches!(
+    reading::read(line).is_some_and(|command| {
+        matches!(
             command.deed,
             Deed::Append(_) | Deed::Insert(_) | Deed::Change(_)
-        ),
-        None => false,
-    }
+        )
+    })
 }

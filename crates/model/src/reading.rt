@@ -4,8 +4,8 @@
 const MOST_DIGITS: usize = 9;
 /// How many bytes a command has at most.
 const MOST_BYTES: usize = 65_535;
-/// How many bytes a file's name has at most, with the blank before it.
-const MOST_NAME: usize = 65;
+/// How many bytes a file's name has at most.
+const MOST_NAME: usize = 64;
 
 /// Where an address begins to count.
 #[derive(Clone, Copy)]
@@ -28,7 +28,6 @@ pub struct Address {
 /// The lines that a command is for.
 #[derive(Clone, Copy)]
 pub enum Range {
-    None,
     One(Address),
     Both(Address, Address),
     /// The second counts from the first.
@@ -36,11 +35,8 @@ pub enum Range {
     All,
 }
 
-/// The lines given behind a command, each behind a byte 10; or none.
-#[derive(Clone, Copy)]
-pub struct Given<'a> {
-    pub text: Option<&'a [u8]>,
-}
+/// The lines given behind a command, with a byte 10 between them; or none.
+pub type Given<'a> = Option<&'a [u8]>;
 
 #[derive(Clone, Copy)]
 pub enum Deed<'a> {
@@ -64,7 +60,7 @@ pub enum Deed<'a> {
 
 #[derive(Clone, Copy)]
 pub struct Command<'a> {
-    pub range: Range,
+    pub range: Option<Range>,
     pub deed: Deed<'a>,
     /// Whether the deed is done for all lines that match, or don't.
     pub is_global: bool,
@@ -76,44 +72,30 @@ const HERE: Address = Address {
     back: 0,
 };
 
-/// What stands behind the first so many bytes.
-fn behind(text: &[u8], count: usize) -> &[u8] {
-    text.get(count..).unwrap_or(&[])
-}
-
-/// How many digits stand in front.
-fn digits(text: &[u8]) -> usize {
-    text.iter().take_while(|byte| byte.is_ascii_digit()).count()
-}
-
-/// The number that the digits in front write.
-fn number(text: &[u8]) -> u64 {
-    let mut number: u64 = 0;
-    for byte in text.iter().take(digits(text)) {
-        let digit = u64::from(byte.saturating_sub(b'0'));
-        number = number.saturating_mul(10).saturating_add(digit);
+/// The number that the digits in front write, 0 where there are none, if they aren't too many.
+fn read_number(text: &[u8]) -> Option<(u64, &[u8])> {
+    let count = text.iter().take_while(|byte| byte.is_ascii_digit()).count();
+    let (digits, rest) = text.split_at_checked(count)?;
+    if digits.len() > MOST_DIGITS {
+        return None;
     }
-    number
+    let number = digits.iter().fold(0, |number: u64, digit| {
+        number
+            .saturating_mul(10)
+            .saturating_add(u64::from(digit.saturating_sub(b'0')))
+    });
+    Some((number, rest))
 }
 
 /// What stands behind the next such byte that has no backslash before it.
 fn past(end: u8, text: &[u8]) -> Option<&[u8]> {
     let mut is_taken = false;
-    for (index, byte) in text.iter().enumerate() {
-        if is_taken {
-            is_taken = false;
-        } else if *byte == end {
-            return Some(behind(text, index.saturating_add(1)));
-        } else {
-            is_taken = *byte == b'\\';
-        }
-    }
-    None
-}
-
-fn is_letter(text: &[u8]) -> bool {
-    text.first()
-        .is_some_and(|letter| letter.is_ascii_lowercase())
+    let index = text.iter().position(|byte| {
+        let is_free = !is_taken;
+        is_taken = is_free && *byte == b'\\';
+        is_free && *byte == end
+    })?;
+    text.get(index.saturating_add(1)..)
 }
 
 fn starts_address(text: &[u8]) -> bool {
@@ -124,17 +106,25 @@ fn starts_address(text: &[u8]) -> bool {
 }
 
 fn read_base(text: &[u8]) -> Option<(Base, &[u8])> {
-    let rest = behind(text, 1);
-    match text.first()? {
-        b'0'..=b'9' if digits(text) > MOST_DIGITS => None,
-        b'0'..=b'9' => Some((Base::Number(number(text)), behind(text, digits(text)))),
-        b'.' => Some((Base::Current, rest)),
-        b'$' => Some((Base::Last, rest)),
-        b'\'' if is_letter(rest) => Some((Base::Sought, behind(rest, 1))),
-        b'/' => Some((Base::Sought, past(b'/', rest)?)),
-        b'?' => Some((Base::Sought, past(b'?', rest)?)),
-        b'+' | b'-' => Some((Base::Current, text)),
+    match text {
+        [b'0'..=b'9', ..] => {
+            let (number, rest) = read_number(text)?;
+            Some((Base::Number(number), rest))
+        }
+        [b'.', rest @ ..] => Some((Base::Current, rest)),
+        [b'$', rest @ ..] => Some((Base::Last, rest)),
+        [b'\'', b'a'..=b'z', rest @ ..] => Some((Base::Sought, rest)),
+        [end @ (b'/' | b'?'), rest @ ..] => Some((Base::Sought, past(*end, rest)?)),
+        [b'+' | b'-', ..] => Some((Base::Current, text)),
         _ => None,
+    }
+}
+
+/// How far one goes from an address: 1 where no number is said.
+fn read_amount(text: &[u8]) -> Option<(u64, &[u8])> {
+    match text {
+        [b'0'..=b'9', ..] => read_number(text),
+        _ => Some((1, text)),
     }
 }
 
@@ -142,21 +132,20 @@ fn read_address(text: &[u8]) -> Option<(Address, &[u8])> {
     let (base, mut rest) = read_base(text)?;
     let mut on: u64 = 0;
     let mut back: u64 = 0;
-    for _ in 0..u64::MAX {
-        let after = behind(rest, 1);
-        let amount = match digits(after) {
-            0 => 1,
-            count if count > MOST_DIGITS => return None,
-            _ => number(after),
+    // Each turn takes a sign off, so there are no more of them than bytes.
+    for _ in 0..rest.len() {
+        let [sign @ (b'+' | b'-'), behind @ ..] = rest else {
+            break;
         };
-        match rest.first() {
-            Some(b'+') => on = on.saturating_add(amount),
-            Some(b'-') => back = back.saturating_add(amount),
-            _ => return Some((Address { base, on, back }, rest)),
+        let (amount, behind) = read_amount(behind)?;
+        if *sign == b'+' {
+            on = on.saturating_add(amount);
+        } else {
+            back = back.saturating_add(amount);
         }
-        rest = behind(after, digits(after));
+        rest = behind;
     }
-    None
+    Some((Address { base, on, back }, rest))
 }
 
 fn address_or_here(text: &[u8]) -> Option<(Address, &[u8])> {
@@ -167,121 +156,87 @@ fn address_or_here(text: &[u8]) -> Option<(Address, &[u8])> {
     }
 }
 
-fn read_range(text: &[u8]) -> Option<(Range, &[u8])> {
-    if let Some(b'%' | b',') = text.first() {
-        return Some((Range::All, behind(text, 1)));
+fn read_range(text: &[u8]) -> Option<(Option<Range>, &[u8])> {
+    if let [b'%' | b',', rest @ ..] = text {
+        return Some((Some(Range::All), rest));
     }
     if !starts_address(text) {
-        return Some((Range::None, text));
+        return Some((None, text));
     }
     let (first, rest) = read_address(text)?;
-    match rest.first() {
-        Some(b',') => {
-            let (second, rest) = address_or_here(behind(rest, 1))?;
-            Some((Range::Both(first, second), rest))
+    match rest {
+        [b',', rest @ ..] => {
+            let (second, rest) = address_or_here(rest)?;
+            Some((Some(Range::Both(first, second)), rest))
         }
-        Some(b';') => {
-            let (second, rest) = address_or_here(behind(rest, 1))?;
-            Some((Range::Then(first, second), rest))
+        [b';', rest @ ..] => {
+            let (second, rest) = address_or_here(rest)?;
+            Some((Some(Range::Then(first, second)), rest))
         }
-        _ => Some((Range::One(first), rest)),
+        _ => Some((Some(Range::One(first)), rest)),
     }
 }
 
 fn read_given(text: &[u8]) -> Option<Given<'_>> {
-    match text.first() {
-        None => Some(Given { text: None }),
-        Some(b'\n') => Some(Given {
-            text: Some(behind(text, 1)),
-        }),
-        Some(_) => None,
-    }
-}
-
-fn name(text: &[u8]) -> Option<&[u8]> {
-    if text.len() < 2 || text.len() > MOST_NAME || text.contains(&b'\n') {
-        return None;
-    }
-    match text.first() {
-        Some(b' ') => Some(behind(text, 1)),
+    match text {
+        [] => Some(None),
+        [b'\n', lines @ ..] => Some(Some(lines)),
         _ => None,
     }
 }
 
-/// A deed behind which nothing may stand.
-fn alone<'a>(deed: Deed<'a>, text: &[u8]) -> Option<Deed<'a>> {
-    if text.is_empty() { Some(deed) } else { None }
+fn read_name(text: &[u8]) -> Option<&[u8]> {
+    let name = text.strip_prefix(b" ")?;
+    let is_right = 1 <= name.len() && name.len() <= MOST_NAME && !name.contains(&b'\n');
+    is_right.then_some(name)
 }
 
 /// Moving and copying: an address or none, and nothing behind.
 fn with_target(text: &[u8]) -> Option<Deed<'_>> {
     let (_, rest) = address_or_here(text)?;
-    alone(Deed::LaterForMany, rest)
-}
-
-fn mark(text: &[u8]) -> Option<Deed<'_>> {
-    if is_letter(text) {
-        alone(Deed::LaterForMany, behind(text, 1))
-    } else {
-        None
-    }
+    rest.is_empty().then_some(Deed::LaterForMany)
 }
 
 /// Which match is replaced: none is said, all, or one from the first to the 999th.
 fn is_choice(text: &[u8]) -> bool {
-    if text.is_empty() || text == b"g".as_slice() {
-        return true;
+    match text {
+        [] | [b'g'] => true,
+        _ => text.len() <= 3
+            && read_number(text).is_some_and(|(number, rest)| rest.is_empty() && number >= 1),
     }
-    digits(text) == text.len() && text.len() <= 3 && number(text) >= 1
 }
 
 fn replacement(text: &[u8]) -> Option<Deed<'_>> {
-    let Some(b'/') = text.first() else {
-        return None;
-    };
-    let rest = past(b'/', past(b'/', behind(text, 1))?)?;
-    if is_choice(rest) {
-        Some(Deed::LaterForMany)
-    } else {
-        None
-    }
+    let rest = past(b'/', past(b'/', text)?)?;
+    is_choice(rest).then_some(Deed::LaterForMany)
 }
 
 fn read_deed(text: &[u8]) -> Option<Deed<'_>> {
-    let rest = behind(text, 1);
-    let Some(letter) = text.first() else {
-        return Some(Deed::GoTo);
-    };
-    match letter {
-        b'a' => Some(Deed::Append(read_given(rest)?)),
-        b'i' => Some(Deed::Insert(read_given(rest)?)),
-        b'c' => Some(Deed::Change(read_given(rest)?)),
-        b'd' => alone(Deed::Delete, rest),
-        b'j' => alone(Deed::Join, rest),
-        b'm' | b't' => with_target(rest),
-        b'k' => mark(rest),
-        b'p' => alone(Deed::Print, rest),
-        b'n' => alone(Deed::Number, rest),
-        b'=' => alone(Deed::Place, rest),
-        b'u' | b'U' => alone(Deed::Later, rest),
-        b'w' => Some(Deed::Save(name(rest)?)),
-        b'e' => Some(Deed::Edit(name(rest)?)),
-        b'r' => {
-            let _ = name(rest)?;
-            Some(Deed::Later)
-        }
-        b'f' => alone(Deed::Files, rest),
-        b's' => replacement(rest),
+    match text {
+        [] => Some(Deed::GoTo),
+        [b'a', rest @ ..] => Some(Deed::Append(read_given(rest)?)),
+        [b'i', rest @ ..] => Some(Deed::Insert(read_given(rest)?)),
+        [b'c', rest @ ..] => Some(Deed::Change(read_given(rest)?)),
+        [b'd'] => Some(Deed::Delete),
+        [b'j'] => Some(Deed::Join),
+        [b'm' | b't', rest @ ..] => with_target(rest),
+        [b'k', b'a'..=b'z'] => Some(Deed::LaterForMany),
+        [b'p'] => Some(Deed::Print),
+        [b'n'] => Some(Deed::Number),
+        [b'='] => Some(Deed::Place),
+        [b'u' | b'U'] => Some(Deed::Later),
+        [b'w', rest @ ..] => Some(Deed::Save(read_name(rest)?)),
+        [b'e', rest @ ..] => Some(Deed::Edit(read_name(rest)?)),
+        [b'r', rest @ ..] => read_name(rest).map(|_| Deed::Later),
+        [b'f'] => Some(Deed::Files),
+        [b's', b'/', rest @ ..] => replacement(rest),
         _ => None,
     }
 }
 
 /// A command for all lines that match, or don't.
-fn global(range: Range, text: &[u8]) -> Option<Command<'_>> {
-    let Some(b'/') = text.first() else {
-        return None;
-    };
-    let (_, rest) = read_range(past(b'/', behind(text, 1))?)?;
+fn global(range: Option<Range>, text: &[u8]) -> Option<Command<'_>> {
+    let (_, rest) = read_range(past(b'/', text.strip_prefix(b"/")?)?)?;
     let deed = read_deed(rest)?;
     match deed {
         Deed::Save(_) | Deed::Edit(_) | Deed::Files | Deed::Later => None,
@@ -299,8 +254,8 @@ pub fn read(text: &[u8]) -> Option<Command<'_>> {
         return None;
     }
     let (range, rest) = read_range(text)?;
-    if let Some(b'g' | b'v') = rest.first() {
-        return global(range, behind(rest, 1));
+    if let [b'g' | b'v', rest @ ..] = rest {
+        return global(range, rest);
     }
     Some(Command {
         range,
@@ -315,15 +270,22 @@ impl Address {
     }
 }
 
-impl Command<'_> {
-    /// Whether it is one of those that the house knows first.
-    pub fn is_core(&self) -> bool {
-        let known = match self.range {
-            Range::None | Range::All => true,
+impl Range {
+    fn is_core(&self) -> bool {
+        match self {
+            Range::All => true,
             Range::One(first) => first.is_core(),
             Range::Both(first, second) | Range::Then(first, second) => first.is_core()
                 && second.is_core(),
-        };
-        known && !self.is_global && !matches!(self.deed, Deed::Later | Deed::LaterForMany)
+        }
+    }
+}
+
+impl Command<'_> {
+    /// Whether it is one of those that the house knows first.
+    pub fn is_core(&self) -> bool {
+        self.range.is_none_or(|range| range.is_core())
+            && !self.is_global
+            && !matches!(self.deed, Deed::Later | Deed::LaterForMany)
     }
 }

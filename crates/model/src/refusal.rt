@@ -2,15 +2,36 @@
 
 use std::alloc::{AllocError, AllocFailed};
 
-/// Why a command is refused, with the number that is told.
+/// Why a command is refused.
 #[derive(Clone, Copy, PartialEq, Eq)]
 pub enum Refusal {
-    Unreadable = 1,
-    Unknown = 2,
-    NoFile = 3,
-    NoLine = 4,
-    TooLong = 7,
-    NoRoom = 8,
+    Unreadable,
+    Unknown,
+    NoFile,
+    NoLine,
+    TooLong,
+    NoRoom,
+}
+
+/// A number with which no command is refused.
+#[derive(Clone, Copy, PartialEq, Eq)]
+pub struct NoRefusal(pub u64);
+
+/// The number is the one that a house tells.
+impl TryFrom<u64> for Refusal {
+    type Error = NoRefusal;
+
+    fn try_from(number: u64) -> Result<Refusal, NoRefusal> {
+        match number {
+            1 => Ok(Refusal::Unreadable),
+            2 => Ok(Refusal::Unknown),
+            3 => Ok(Refusal::NoFile),
+            4 => Ok(Refusal::NoLine),
+            7 => Ok(Refusal::TooLong),
+            8 => Ok(Refusal::NoRoom),
+            _ => Err(NoRefusal(number)),
+        }
+    }
 }
 
 /// Why a command comes to no end of its own.
@@ -18,6 +39,12 @@ pub enum Refusal {
 pub enum Halt {
     Refused(Refusal),
     Memory(AllocError),
+}
+
+impl From<Refusal> for Halt {
+    fn from(why: Refusal) -> Halt {
+        Halt::Refused(why)
+    }
 }
 
 impl From<AllocError> for Halt {

@@ -1,68 +1,68 @@
 //! A machine that is woken on a copy of the tapes and asked what it knows.
 
-use crate::guess::Guess;
-use crate::machine::{End, Event, Machine};
-use crate::tape::Device;
-use model::House;
-use std::alloc::{AllocError, Global};
+ghost use Rattle.std.specs.Iterator.{at_most};
 
-/// More acts than any command has.
-pub const MANY: u64 = 100_000_000;
+use crate::fault::Fault;
+use crate::guess::Guess;
+use crate::machine::{Cue, MANY, Machine};
+use crate::tape::Device;
+use std::alloc::{AllocError, Global};
+use std::num::Saturating;
+
 /// How many files are looked into each time.
-const FILES: u64 = 3;
+const FILES: usize = 3;
 /// Each such time the room is measured too.
 const SCALE_EACH: u64 = 8;
-/// What a line weighs beside its bytes, and the heaviest.
-const LINE: u64 = 64;
-
-const HEAVIEST: u64 = 1_088;
-/// What an earlier text weighs, and how many there are.
-const EARLIER: u64 = 256;
-
-const MOST_EARLIER: usize = 64;
+/// What the heaviest line weighs.
+const HEAVIEST: u64 = model::LINE + model::LONGEST as u64;
 
 #[derive(Drop)]
 pub struct Asker {
     heap: Global,
     machine: Machine,
-    asked: u64,
-    pub comparisons: u64,
+    asked: Saturating<u64>,
+    pub comparisons: Saturating<u64>,
+}
+
+/// The tapes that the machine is woken on, and the houses that it may be.
+#[derive(Drop)]
+struct Woken {
+    device: Device,
+    guess: Guess,
+}
+
+/// What so many weights are cut into, so that each is what a line may weigh.
+#[derive(Drop)]
+struct Weights(u64);
+
+impl Iterator for Weights {
+    type Item = u64;
+
+    ghost remaining = { λ s. at_most s.0 };
+
+    fn next(&mut self) -> Option<u64> {
+        if self.0 < model::LINE {
+            return None;
+        }
+        let weight = if self.0 <= HEAVIEST {
+            self.0
+        } else {
+            HEAVIEST.min(self.0 - model::LINE)
+        };
+        self.0 -= weight;
+        Some(weight)
+    }
 }
 
 /// Lines behind the last that weigh so much together.
-fn weights(heap: Global, sum: u64) -> Result<Vec<u8>, AllocError> {
-    let mut text = Vec::new(heap);
-    text.extend_from_slice(b"$a")?;
-    let mut rest = sum;
-    for _ in 0..sum {
-        if rest < LINE {
-            break;
-        }
-        let piece = if rest <= HEAVIEST {
-            rest
-        } else {
-            HEAVIEST.min(rest.saturating_sub(LINE))
-        };
+fn lines_of(heap: Global, sum: u64) -> Result<Vec<u8>, AllocError> {
+    let mut text = Vec::from_slice(heap, b"$a")?;
+    for weight in Weights(sum) {
+        let bytes = weight.saturating_sub(model::LINE) as usize;
         text.push(b'\n')?;
-        for _ in LINE..piece {
-            text.push(b'x')?;
-        }
-        rest = rest.saturating_sub(piece);
+        text.resize(text.len().saturating_add(bytes), b'x')?;
     }
     Ok(text)
-}
-
-/// How much lines behind the last may weigh for the house to be just full.
-fn slack(house: &House, room: u64) -> u64 {
-    let forgotten = match house.earlier.first() {
-        Some(oldest) if house.earlier.len() >= MOST_EARLIER => *oldest,
-        _ => 0,
-    };
-    let kept = house
-        .weight()
-        .saturating_add(EARLIER)
-        .saturating_sub(forgotten);
-    room.saturating_mul(32).saturating_sub(kept)
 }
 
 impl Asker {
@@ -70,87 +70,79 @@ impl Asker {
         Ok(Asker {
             heap,
             machine: Machine::new(heap)?,
-            asked: 0,
-            comparisons: 0,
+            asked: Saturating(0),
+            comparisons: Saturating(0),
         })
     }
 
     /// A command, done by the machine and by the houses that it may be.
-    fn put(
-        &mut self,
-        device: &mut Device,
-        guess: &mut Guess,
-        text: &[u8],
-    ) -> Result<bool, AllocError> {
-        self.comparisons = self.comparisons.saturating_add(1);
-        let ran = self.machine.run(device, Event::Command, text, MANY)?;
-        guess.keep(text, &ran)
+    fn put(&mut self, woken: &mut Woken, text: &[u8]) -> Result<(), Fault> {
+        self.comparisons += 1;
+        let ran = self
+            .machine
+            .run(&mut woken.device, Cue::Command(text), MANY)?;
+        woken.guess = woken.guess.kept(text, &ran)?;
+        Ok(())
     }
 
     /// The names of some files, others each time.
     fn names(&self, guess: &Guess) -> Result<Vec<Vec<u8>>, AllocError> {
-        let mut names = Vec::new(self.heap);
         let Some(house) = guess.any() else {
-            return Ok(names);
+            return Ok(Vec::new(self.heap));
         };
-        let count = house.files.len() as u64;
-        for number in 0..FILES.min(count) {
-            let index = self.asked.saturating_add(number).checked_rem(count);
-            if let Some(index) = index
-                && let Some(file) = house.files.get(index as usize)
-            {
-                names.push(file.name.clone()?)?;
-            }
-        }
-        Ok(names)
+        let files = house.files.as_slice();
+        let turn = self.asked.0.checked_rem(files.len() as u64).unwrap_or(0);
+        let (before, behind) = files.split_at(files.len().min(turn as usize));
+        behind
+            .iter()
+            .chain(before)
+            .take(FILES)
+            .map(|file| file.name.clone())
+            .try_collect(self.heap)
     }
 
-    fn ask_files(&mut self, device: &mut Device, guess: &mut Guess) -> Result<bool, AllocError> {
-        for name in self.names(guess)? {
-            let mut text = Vec::new(self.heap);
-            text.extend_from_slice(b"e ")?;
-            text.extend_from_slice(name.as_slice())?;
-            if !self.put(device, guess, text.as_slice())? || !self.put(device, guess, b"%p")? {
-                return Ok(false);
-            }
+    fn ask_files(&mut self, woken: &mut Woken) -> Result<(), Fault> {
+        for name in self.names(&woken.guess)? {
+            let text = [b"e ".as_slice(), name.as_slice()].concat(self.heap)?;
+            self.put(woken, text.as_slice())?;
+            self.put(woken, b"%p")?;
         }
-        Ok(true)
+        Ok(())
     }
 
     /// Whether the house takes what just fits, and nothing more.
-    fn measure(&mut self, device: &mut Device, guess: &mut Guess) -> Result<bool, AllocError> {
-        let sum = match guess.only() {
-            Some(house) => slack(house, device.room),
-            None => return Ok(true),
+    fn measure(&mut self, woken: &mut Woken) -> Result<(), Fault> {
+        let Some(house) = woken.guess.only() else {
+            return Ok(());
         };
-        let surplus = weights(self.heap, sum.saturating_add(1))?;
-        let full = weights(self.heap, sum)?;
-        Ok(
-            self.put(device, guess, surplus.as_slice())?
-                && self.put(device, guess, full.as_slice())?,
-        )
+        let slack = house.slack(woken.device.room);
+        let surplus = lines_of(self.heap, slack.saturating_add(1))?;
+        let full = lines_of(self.heap, slack)?;
+        self.put(woken, surplus.as_slice())?;
+        self.put(woken, full.as_slice())
     }
 
     /// Whether the machine knows what one of these houses knows.
-    fn ask(&mut self, device: &mut Device, guess: &mut Guess) -> Result<bool, AllocError> {
-        let is_known = self.put(device, guess, b".=")?
-            && self.put(device, guess, b"f")?
-            && self.put(device, guess, b"%n")?
-            && self.ask_files(device, guess)?;
-        if is_known && self.asked % SCALE_EACH == 0 {
-            return self.measure(device, guess);
+    fn ask(&mut self, woken: &mut Woken) -> Result<(), Fault> {
+        self.put(woken, b".=")?;
+        self.put(woken, b"f")?;
+        self.put(woken, b"%n")?;
+        self.ask_files(woken)?;
+        if self.asked.0 % SCALE_EACH == 0 {
+            self.measure(woken)?;
         }
-        Ok(is_known)
+        Ok(())
     }
 
-    /// Whether a machine that is woken on this device is one of these houses.
-    pub fn wakes_as(&mut self, device: &mut Device, guess: &Guess) -> Result<bool, AllocError> {
-        self.asked = self.asked.saturating_add(1);
-        let ran = self.machine.wake(device, MANY)?;
-        if ran.end != Some(End::Done) || !ran.rows.is_empty() {
-            return Ok(false);
+    /// Whether a machine that is woken on this device is one of these houses; a difference where it is none.
+    pub fn wakes_as(&mut self, device: Device, guess: &Guess) -> Result<(), Fault> {
+        self.asked += 1;
+        let guess = guess.clone()?;
+        let mut woken = Woken { device, guess };
+        let ran = self.machine.wake(&mut woken.device, MANY)?;
+        if ran.end != Some(Ok(())) || !ran.rows.is_empty() {
+            return Err(Fault::difference());
         }
-        let mut guess = guess.copy()?;
-        self.ask(device, &mut guess)
+        self.ask(&mut woken)
     }
 }

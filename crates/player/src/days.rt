@@ -6,7 +6,7 @@ pub struct Known {
     pub text: &'static str,
 }
 
-pub const DAYS: [Known; 17] = [
+pub const DAYS: &[Known] = &[
     Known {
         name: "a first list",
         text: "a

@@ -1,14 +1,14 @@
 //! A day with every stop tried: in each command after each act, and in the wake-ups behind it.
 
-use crate::asker::{Asker, MANY};
-use crate::day;
-use crate::day::{Day, Kind, Scene};
-use crate::fault::Fault;
+use crate::asker::Asker;
+use crate::day::{Day, Scene};
+use crate::fault::{Fault, Trail};
 use crate::guess::Guess;
-use crate::machine::{Event, Machine, Ran};
+use crate::machine::{Cue, MANY, Machine, Ran};
 use crate::stage::{Counts, Stage};
 use crate::tape::{Device, Stays, Stop};
 use std::alloc::{AllocError, Global};
+use std::num::Saturating;
 
 /// More combinations than these are thinned out.
 const MOST_CHOICES: usize = 16;
@@ -23,45 +23,43 @@ const LONG_WAKE_EACH: u64 = 97;
 
 const LONG: usize = 200;
 
-/// Where a difference was found: a stop in a command and perhaps one in the wake-up behind it. No stop where the command itself differs.
-#[derive(Clone, Copy)]
-pub struct Trail {
-    stop: Option<Stop>,
-    again: Option<Stop>,
-}
-
 #[derive(Drop)]
 struct Trials {
     heap: Global,
     stage: Stage,
     asker: Asker,
     waking: Machine,
-    tried: u64,
+    tried: Saturating<u64>,
 }
 
 /// What may be left of so many loose records: none, one, all but one, all; and half of the next.
 fn choices(heap: Global, loose: usize) -> Result<Vec<Stays>, AllocError> {
-    let mut choices: Vec<Stays> = Vec::new(heap);
     let loose = loose as u64;
-    for count in [0, 1, loose.saturating_sub(1), loose] {
-        let is_new = match choices.last() {
-            Some(last) => last.count < count,
-            None => true,
-        };
-        if is_new && count <= loose {
-            choices.push(Stays {
+    (0..=loose)
+        .filter(|count| [0, 1, loose.saturating_sub(1), loose].contains(count))
+        .flat_map(|count| [
+            Stays {
                 count,
                 is_half: false,
-            })?;
-            if count < loose {
-                choices.push(Stays {
-                    count,
-                    is_half: true,
-                })?;
-            }
-        }
+            },
+            Stays {
+                count,
+                is_half: true,
+            },
+        ])
+        .filter(|stays| stays.count < loose || !stays.is_half)
+        .collect(heap)
+}
+
+/// What may be left of both tapes.
+fn combinations(heap: Global, loose: [usize; 2]) -> Result<Vec<[Stays; 2]>, AllocError> {
+    let [first, second] = loose;
+    let seconds = choices(heap, second)?;
+    let mut both = Vec::new(heap);
+    for first in choices(heap, first)? {
+        both.extend(seconds.iter().map(|second| [first, *second]))?;
     }
-    Ok(choices)
+    Ok(both)
 }
 
 impl Trials {
@@ -71,216 +69,143 @@ impl Trials {
             stage: Stage::new(heap, room)?,
             asker: Asker::new(heap)?,
             waking: Machine::new(heap)?,
-            tried: 0,
+            tried: Saturating(0),
         })
     }
 
-    /// A stop of a wake-up, with nothing left, with all, and with a half; the stop where there is a difference.
-    fn stop_waking(
-        &mut self,
-        device: &Device,
-        acts: u64,
-        guess: &Guess,
-    ) -> Result<Option<Stop>, Fault> {
+    /// A stop of a wake-up, with nothing left, with all, and with a half.
+    fn stop_waking(&mut self, device: &Device, acts: u64, guess: &Guess) -> Result<(), Fault> {
         for (count, is_half) in [(0, false), (MANY, false), (0, true)] {
-            if count == 0 && is_half && device.loose(0) == 0 && device.loose(1) == 0 {
+            if is_half && device.loose() == [0, 0] {
                 continue;
             }
-            let stays = Stays { count, is_half };
-            let stop = Stop {
-                acts,
-                first: stays,
-                second: stays,
-            };
-            let mut left = device.left(self.heap, stop)?;
-            self.stage.counts.stops = self.stage.counts.stops.saturating_add(1);
-            if !self.asker.wakes_as(&mut left, guess)? {
-                return Ok(Some(stop));
-            }
+            let stays = [Stays { count, is_half }; 2];
+            let stop = Stop { acts, stays };
+            self.stage.counts.stops += 1;
+            self.asker
+                .wakes_as(device.left(stop)?, guess)
+                .map_err(|fault| fault.after_again(stop))?;
         }
-        Ok(None)
+        Ok(())
     }
 
     /// A wake-up on these tapes, stopped at its acts.
-    fn wake_with_stops(&mut self, device: &Device, guess: &Guess) -> Result<Option<Stop>, Fault> {
-        let mut device = device.copy(self.heap)?;
-        let room = device.room.to_be_bytes();
+    fn wake_with_stops(&mut self, mut device: Device, guess: &Guess) -> Result<(), Fault> {
         self.waking.forget();
-        let mut ran = Ran::new(self.heap);
+        let mut ran = Ran::new(self.heap, Cue::Power);
         let mut seen = device.turns;
         for _ in 0..MANY {
             if ran.end.is_some() {
                 break;
             }
             let before = device.changes;
-            self.waking.act(&mut device, Event::Power, &room, &mut ran)?;
-            let is_some = device.changes != before && ran.acts % SOME_ACTS == 0;
-            if device.turns == seen && !is_some && ran.acts > FIRST_ACTS {
-                continue;
-            }
-            seen = device.turns;
-            if let Some(stop) = self.stop_waking(&device, ran.acts, guess)? {
-                return Ok(Some(stop));
+            self.waking.act(&mut device, &mut ran)?;
+            let is_some = device.changes != before && ran.acts.0 % SOME_ACTS == 0;
+            if device.turns != seen || is_some || ran.acts.0 <= FIRST_ACTS {
+                seen = device.turns;
+                self.stop_waking(&device, ran.acts.0, guess)?;
             }
         }
-        Ok(None)
+        Ok(())
     }
 
     /// One stop, and what a machine knows that is woken then.
-    fn try_stop(&mut self, stop: Stop, guess: &Guess) -> Result<Option<Trail>, Fault> {
-        self.tried = self.tried.saturating_add(1);
-        self.stage.counts.stops = self.stage.counts.stops.saturating_add(1);
-        let mut left = self.stage.device.left(self.heap, stop)?;
-        let is_long = left.records(0) > LONG || left.records(1) > LONG;
-        let each = if is_long { LONG_WAKE_EACH } else { WAKE_EACH };
-        if self.tried.checked_rem(each) == Some(0) {
-            let again = self.wake_with_stops(&left, guess)?;
-            if again.is_some() {
-                return Ok(Some(Trail {
-                    stop: Some(stop),
-                    again,
-                }));
-            }
+    fn try_stop(&mut self, stop: Stop, guess: &Guess) -> Result<(), Fault> {
+        self.tried += 1;
+        self.stage.counts.stops += 1;
+        let left = self.stage.device.left(stop)?;
+        let each = if left.is_longer_than(LONG) {
+            LONG_WAKE_EACH
+        } else {
+            WAKE_EACH
+        };
+        if self.tried.0 % each == 0 {
+            self.wake_with_stops(left.clone()?, guess)?;
         }
-        if !self.asker.wakes_as(&mut left, guess)? {
-            return Ok(Some(Trail {
-                stop: Some(stop),
-                again: None,
-            }));
-        }
-        Ok(None)
+        self.asker.wakes_as(left, guess)
     }
 
     /// All stops after so many acts, in a sensible set of combinations.
-    fn try_stops(&mut self, acts: u64, guess: &Guess) -> Result<Option<Trail>, Fault> {
-        let firsts = choices(self.heap, self.stage.device.loose(0))?;
-        let seconds = choices(self.heap, self.stage.device.loose(1))?;
-        let is_thin = firsts.len().saturating_mul(seconds.len()) > MOST_CHOICES;
-        let mut turn = self.tried;
-        for first in firsts.iter() {
-            for second in seconds.iter() {
-                turn = turn.saturating_add(1);
-                if is_thin && turn % 4 != 0 {
-                    continue;
-                }
-                let stop = Stop {
-                    acts,
-                    first: *first,
-                    second: *second,
-                };
-                let trail = self.try_stop(stop, guess)?;
-                if trail.is_some() {
-                    return Ok(trail);
-                }
+    fn try_stops(&mut self, acts: u64, guess: &Guess) -> Result<(), Fault> {
+        let combinations = combinations(self.heap, self.stage.device.loose())?;
+        let each = if combinations.len() > MOST_CHOICES {
+            4
+        } else {
+            1
+        };
+        for (turn, stays) in (self.tried.0.saturating_add(1)..).zip(combinations) {
+            if turn % each == 0 {
+                let stop = Stop { acts, stays };
+                self.try_stop(stop, guess)
+                    .map_err(|fault| fault.after(stop))?;
             }
         }
-        Ok(None)
+        Ok(())
     }
 
     /// A command with all its stops. Where an act changes no tape, the stop behind it is the one before it.
-    fn command(&mut self, text: &[u8]) -> Result<Option<Trail>, Fault> {
-        let differs = Trail {
-            stop: None,
-            again: None,
-        };
-        if !self.stage.power(None)? {
-            return Ok(Some(differs));
-        }
-        let mut ran = Ran::new(self.heap);
-        let either = self.stage.guess.stopped(text, &ran)?;
-        let mut seen = u64::MAX;
+    fn command(&mut self, text: &[u8]) -> Result<(), Fault> {
+        self.stage.power(None)?;
+        let either = self.stage.guess.stopped(text, &[])?;
+        let mut ran = Ran::new(self.heap, Cue::Command(text));
+        let mut seen = None;
         for _ in 0..MANY {
             if ran.end.is_some() {
                 break;
             }
-            if self.stage.device.changes != seen {
-                seen = self.stage.device.changes;
-                let trail = self.try_stops(ran.acts, &either)?;
-                if trail.is_some() {
-                    return Ok(trail);
-                }
+            let changes = Some(self.stage.device.changes);
+            if seen != changes {
+                seen = changes;
+                self.try_stops(ran.acts.0, &either)?;
             }
-            self.stage
-                .machine
-                .act(&mut self.stage.device, Event::Command, text, &mut ran)?;
+            self.stage.machine.act(&mut self.stage.device, &mut ran)?;
         }
-        if !self.stage.settle(text, &ran)? {
-            return Ok(Some(differs));
-        }
-        let after = self.stage.guess.copy()?;
-        self.try_stops(ran.acts, &after)
+        self.stage.settle(text, &ran)?;
+        let after = self.stage.guess.clone()?;
+        self.try_stops(ran.acts.0, &after)
     }
 
     /// The first power, with all its stops.
-    fn first_power(&mut self) -> Result<Option<Trail>, Fault> {
-        let device = self.stage.device.copy(self.heap)?;
-        let guess = self.stage.guess.copy()?;
-        let again = self.wake_with_stops(&device, &guess)?;
-        if again.is_some() {
-            return Ok(Some(Trail { stop: None, again }));
-        }
-        Ok(None)
+    fn first_power(&mut self) -> Result<(), Fault> {
+        let device = self.stage.device.clone()?;
+        let guess = self.stage.guess.clone()?;
+        self.wake_with_stops(device, &guess)
     }
 
-    fn scene(&mut self, scene: &Scene, is_watched: bool) -> Result<Option<Trail>, Fault> {
-        if is_watched && scene.stop.is_none() && matches!(scene.kind, Kind::Typed) {
-            return self.command(scene.text.as_slice());
+    fn scene(&mut self, scene: &Scene, is_watched: bool) -> Result<(), Fault> {
+        match scene {
+            Scene::Typed { text, stop: None } if is_watched => self.command(text.as_slice()),
+            _ => self.stage.play(scene, &mut self.asker),
         }
-        if self.stage.play(scene, &mut self.asker)? {
-            return Ok(None);
-        }
-        Ok(Some(Trail {
-            stop: None,
-            again: None,
-        }))
     }
 }
 
-/// Whether a day says from where on it is watched.
-fn has_watch(day: &Day) -> bool {
-    for scene in day.scenes.iter() {
-        if matches!(scene.kind, Kind::Watch) {
-            return true;
-        }
+/// The day up to a difference, with the stops that show it.
+pub fn shown(day: &Day, trail: Trail) -> Result<Day, Fault> {
+    let count = trail.scene.map_or(0, |index| index.saturating_add(1));
+    let mut shown = day.clone()?;
+    shown.scenes.truncate(count);
+    if let Some(Scene::Typed { stop, .. }) = shown.scenes.last_mut()
+        && trail.stop.is_some()
+    {
+        *stop = trail.stop;
     }
-    false
-}
-
-/// The day up to a scene, with the stops that show a difference there.
-fn shown(heap: Global, day: &Day, index: usize, trail: Trail) -> Result<Day, Fault> {
-    let mut shown = day::empty(heap, day.room);
-    for scene in day.scenes.iter().take(index) {
-        shown.scenes.push(scene.copy()?)?;
-    }
-    if let Some(scene) = day.scenes.get(index) {
-        let mut last = scene.copy()?;
-        if trail.stop.is_some() {
-            last.stop = trail.stop;
-        }
-        shown.scenes.push(last)?;
-    }
-    shown.scenes.push(Scene {
-        kind: Kind::Power,
-        text: Vec::new(heap),
-        stop: trail.again,
-    })?;
+    shown.scenes.push(Scene::Power(trail.again))?;
     Ok(shown)
 }
 
-/// A day with every stop tried: a day with stops that shows a difference, if there is one.
-pub fn every(heap: Global, day: &Day, counts: &mut Counts) -> Result<Option<Day>, Fault> {
-    let mut trials = Trials::new(heap, day.room)?;
-    let mut is_watched = !has_watch(day);
-    if is_watched && let Some(trail) = trials.first_power()? {
-        let nothing = day::empty(heap, day.room);
-        return Ok(Some(shown(heap, &nothing, 0, trail)?));
+/// A day with every stop tried.
+pub fn every(day: &Day) -> Result<Counts, Fault> {
+    let mut trials = Trials::new(day.heap, day.room)?;
+    let mut is_watched = !day.scenes.iter().any(|scene| matches!(scene, Scene::Watch));
+    if is_watched {
+        trials.first_power()?;
     }
     for (index, scene) in day.scenes.iter().enumerate() {
-        if let Some(trail) = trials.scene(scene, is_watched)? {
-            return Ok(Some(shown(heap, day, index, trail)?));
-        }
-        is_watched = is_watched || matches!(scene.kind, Kind::Watch);
+        trials
+            .scene(scene, is_watched)
+            .map_err(|fault| fault.at(index))?;
+        is_watched = is_watched || matches!(scene, Scene::Watch);
     }
-    counts.add(trials.stage.tried(&trials.asker));
-    Ok(None)
+    Ok(trials.stage.tried(&trials.asker))
 }

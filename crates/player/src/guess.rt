@@ -1,10 +1,11 @@
 //! The plain houses that the house may be: one, and after a stop two.
 
-use crate::machine::{End, Ran};
+use crate::fault::Fault;
+use crate::machine::Ran;
 use model::{House, Turn};
 use std::alloc::{AllocError, Global};
 
-#[derive(Drop)]
+#[derive(Clone, Drop)]
 pub struct Guess {
     heap: Global,
     room: u64,
@@ -12,52 +13,43 @@ pub struct Guess {
 }
 
 /// Whether the house did what the plain house does.
-fn agrees(turn: &Turn, ran: &Ran) -> bool {
-    let within = match turn.most_records {
-        Some(most) => ran.records <= most,
-        None => true,
-    };
-    within && ran.number() == Some(turn.number()) && ran.rows == turn.rows
+fn agrees(turn: &Turn, ran: &Ran<'_>) -> bool {
+    turn.most_records.is_none_or(|most| ran.records.0 <= most)
+        && ran.end == Some(turn.end)
+        && ran.rows == turn.rows
 }
 
-/// Whether what was shown up to a stop is the front of what the plain house shows.
-fn begins(turn: &Turn, ran: &Ran) -> bool {
-    match turn.rows.as_slice().get(0..ran.rows.len()) {
-        Some(front) => ran.rows.as_slice() == front,
-        None => false,
+/// One house more, if it isn't among them.
+fn add(houses: &mut Vec<House>, house: House) -> Result<(), AllocError> {
+    if !houses.contains(&house) {
+        houses.push(house)?;
     }
+    Ok(())
 }
 
 impl Guess {
     /// A house without lines and files.
     pub fn new(heap: Global, room: u64) -> Result<Guess, AllocError> {
-        let mut houses = Vec::new(heap);
-        houses.push(House::new(heap))?;
-        Ok(Guess { heap, room, houses })
+        Ok(Guess {
+            heap,
+            room,
+            houses: vec![in heap; House::new(heap)]?,
+        })
     }
 
-    fn none(&self) -> Guess {
-        Guess {
-            heap: self.heap,
-            room: self.room,
-            houses: Vec::new(self.heap),
+    /// These houses, of which there has to be one.
+    fn with(&self, houses: Vec<House>) -> Result<Guess, Fault> {
+        if houses.is_empty() {
+            return Err(Fault::difference());
         }
-    }
-
-    pub fn copy(&self) -> Result<Guess, AllocError> {
-        let mut copy = self.none();
-        for house in self.houses.iter() {
-            copy.houses.push(house.clone()?)?;
-        }
-        Ok(copy)
+        Ok(Guess { houses, ..*self })
     }
 
     /// The house, where there is no doubt which.
     pub fn only(&self) -> Option<&House> {
-        if self.houses.len() == 1 {
-            self.houses.first()
-        } else {
-            None
+        match self.houses.as_slice() {
+            [house] => Some(house),
+            _ => None,
         }
     }
 
@@ -66,43 +58,28 @@ impl Guess {
         self.houses.first()
     }
 
-    fn add(&mut self, house: House) -> Result<(), AllocError> {
-        for known in self.houses.iter() {
-            if *known == house {
-                return Ok(());
-            }
-        }
-        self.houses.push(house)?;
-        Ok(())
-    }
-
-    /// Those that do what the house did, after it. False where there is none.
-    pub fn keep(&mut self, text: &[u8], ran: &Ran) -> Result<bool, AllocError> {
-        let mut kept = self.none();
+    /// Those that do what the house did, after it.
+    pub fn kept(&self, text: &[u8], ran: &Ran<'_>) -> Result<Guess, Fault> {
+        let mut kept = Vec::new(self.heap);
         for house in self.houses.iter() {
-            let turn = house.turn(self.heap, self.room, text)?;
+            let turn = house.turn(self.room, text)?;
             if agrees(&turn, ran) {
-                kept.add(turn.next)?;
+                add(&mut kept, turn.next)?;
             }
         }
-        self.houses = kept.houses;
-        Ok(!self.houses.is_empty())
+        self.with(kept)
     }
 
     /// Where a command was stopped: those that would have shown what was shown, before the command and after it.
-    pub fn stopped(&self, text: &[u8], ran: &Ran) -> Result<Guess, AllocError> {
-        let mut either = self.none();
+    pub fn stopped(&self, text: &[u8], rows: &[Vec<u8>]) -> Result<Guess, Fault> {
+        let mut either = Vec::new(self.heap);
         for house in self.houses.iter() {
-            let turn = house.turn(self.heap, self.room, text)?;
-            if ran.end != Some(End::Astray) && begins(&turn, ran) {
-                either.add(house.clone()?)?;
-                either.add(turn.next)?;
+            let turn = house.turn(self.room, text)?;
+            if turn.rows.as_slice().starts_with(rows) {
+                add(&mut either, house.clone()?)?;
+                add(&mut either, turn.next)?;
             }
         }
-        Ok(either)
-    }
-
-    pub fn is_empty(&self) -> bool {
-        self.houses.is_empty()
+        self.with(either)
     }
 }

@@ -1,13 +1,14 @@
 //! The house as it runs beside its tapes, one act at a time.
 
-use crate::tape::Device;
+use crate::fault::Fault;
+use crate::tape::{Device, RECORD};
 use core_house::Told;
+use model::Refusal;
 use std::alloc::{AllocError, Global};
+use std::num::Saturating;
 
-/// How many bytes a record has.
-const RECORD: usize = 512;
-/// A refusal has a number below this one.
-const FAULT: u64 = 1_000;
+/// More acts than any command has. It is what ends a loop over acts: nothing says here that a command comes to its end.
+pub const MANY: u64 = 100_000_000;
 
 /// What the house is told.
 #[derive(Clone, Copy)]
@@ -18,52 +19,34 @@ pub enum Event {
     Next = 3,
 }
 
-/// How a command ended; astray where it asked for what no device can do.
-#[derive(Clone, Copy, PartialEq, Eq)]
-pub enum End {
-    Done,
-    Refused(u64),
-    Astray,
+/// What is told to the house next, with what comes with it.
+#[derive(Clone, Copy)]
+pub enum Cue<'a> {
+    Power,
+    Command(&'a [u8]),
+    /// The record that was asked for.
+    Record(u64),
+    Next,
 }
 
-/// How a command goes: what was shown, how many acts and records there were, and its end.
+/// How a command goes: what was shown, how many acts and records there were, and once it has ended, whether it is done or why not.
 #[derive(Drop)]
-pub struct Ran {
+pub struct Ran<'a> {
     pub rows: Vec<Vec<u8>>,
-    pub acts: u64,
-    pub records: u64,
-    pub end: Option<End>,
-    is_read: bool,
+    pub acts: Saturating<u64>,
+    pub records: Saturating<u64>,
+    pub end: Option<Result<(), Refusal>>,
+    cue: Cue<'a>,
 }
 
-impl Ran {
-    pub fn new(heap: Global) -> Ran {
+impl<'a> Ran<'a> {
+    pub fn new(heap: Global, cue: Cue<'a>) -> Ran<'a> {
         Ran {
             rows: Vec::new(heap),
-            acts: 0,
-            records: 0,
+            acts: Saturating(0),
+            records: Saturating(0),
             end: None,
-            is_read: false,
-        }
-    }
-
-    /// The number told at its end, if it has ended as it should.
-    pub fn number(&self) -> Option<u64> {
-        match self.end {
-            Some(End::Done) => Some(0),
-            Some(End::Refused(number)) => Some(number),
-            Some(End::Astray) | None => None,
-        }
-    }
-
-    fn used(&mut self, is_right: bool) {
-        self.records = self.records.saturating_add(1);
-        self.did(is_right);
-    }
-
-    fn did(&mut self, is_right: bool) {
-        if !is_right {
-            self.end = Some(End::Astray);
+            cue,
         }
     }
 }
@@ -74,7 +57,6 @@ pub struct Machine {
     heap: Global,
     memory: Vec<u64>,
     row: Vec<u8>,
-    page: Vec<u8>,
 }
 
 impl Machine {
@@ -83,7 +65,6 @@ impl Machine {
             heap,
             memory: vec![in heap; 0; core_house::MEMORY]?,
             row: vec![in heap; 0; core_house::ROW]?,
-            page: Vec::new(heap),
         })
     }
 
@@ -101,90 +82,67 @@ impl Machine {
         )
     }
 
-    fn step_record(&mut self) -> Told {
-        core_house::step(
-            self.memory.as_mut_slice(),
-            Event::Record as u64,
-            self.page.as_slice(),
-            self.row.as_mut_slice(),
-        )
+    fn tell(&mut self, device: &Device, cue: Cue<'_>) -> Told {
+        match cue {
+            Cue::Power => self.step(Event::Power, &device.room.to_be_bytes()),
+            Cue::Command(text) => self.step(Event::Command, text),
+            Cue::Record(which) => self.step(Event::Record, device.read(which)),
+            Cue::Next => self.step(Event::Next, &[]),
+        }
     }
 
     /// The first so many bytes of the row, or all.
     fn front(&self, len: usize) -> &[u8] {
-        match self.row.as_slice().get(0..len) {
-            Some(bytes) => bytes,
-            None => self.row.as_slice(),
-        }
+        let row = self.row.as_slice();
+        row.get(..len).unwrap_or(row)
     }
 
-    fn show(&mut self, len: u64, ran: &mut Ran) -> Result<(), AllocError> {
-        let row = Vec::from_slice(self.heap, self.front(len as usize))?;
-        ran.rows.push(row)?;
-        Ok(())
-    }
-
-    fn fetch(&mut self, device: &Device, which: u64) -> Result<(), AllocError> {
-        self.page.clear();
-        self.page
-            .extend_from_slice(device.read(which % 2, which / 2))
-    }
-
-    /// One act more of what the house was told.
-    pub fn act(
-        &mut self,
-        device: &mut Device,
-        event: Event,
-        bytes: &[u8],
-        ran: &mut Ran,
-    ) -> Result<(), AllocError> {
-        let told = match (ran.acts, ran.is_read) {
-            (0, _) => self.step(event, bytes),
-            (_, true) => self.step_record(),
-            (_, false) => self.step(Event::Next, &[]),
-        };
-        ran.acts = ran.acts.saturating_add(1);
-        ran.is_read = matches!(told, Told::Read(_));
+    /// One act more. What no device can do, and a number that is no refusal, is a difference.
+    pub fn act(&mut self, device: &mut Device, ran: &mut Ran<'_>) -> Result<(), Fault> {
+        let told = self.tell(device, ran.cue);
+        ran.acts += 1;
+        ran.cue = Cue::Next;
         match told {
             Told::Read(which) => {
-                self.fetch(device, which)?;
-                ran.used(true);
+                ran.cue = Cue::Record(which);
+                ran.records += 1;
             }
-            Told::Append(tape) => ran.used(device.append(tape, self.front(RECORD))?),
-            Told::Fasten(tape) => ran.did(device.fasten(tape)),
-            Told::Begin(tape) => ran.did(device.begin(tape)),
-            Told::Shows(len) => self.show(len, ran)?,
-            Told::Done => ran.end = Some(End::Done),
-            Told::No(number) if 1 <= number && number < FAULT => ran.end = Some(End::Refused(
-                number,
-            )),
-            Told::No(_) => ran.end = Some(End::Astray),
+            Told::Append(tape) => {
+                device.append(tape, self.front(RECORD))?;
+                ran.records += 1;
+            }
+            Told::Fasten(tape) => device.fasten(tape)?,
+            Told::Begin(tape) => device.begin(tape)?,
+            Told::Shows(len) => {
+                let row = Vec::from_slice(self.heap, self.front(len as usize))?;
+                ran.rows.push(row)?;
+            }
+            Told::Done => ran.end = Some(Ok(())),
+            Told::No(number) => ran.end = Some(Err(Refusal::try_from(number)?)),
         }
         Ok(())
     }
 
     /// So many acts at most.
-    pub fn run(
+    pub fn run<'a>(
         &mut self,
         device: &mut Device,
-        event: Event,
-        bytes: &[u8],
+        cue: Cue<'a>,
         most: u64,
-    ) -> Result<Ran, AllocError> {
-        let mut ran = Ran::new(self.heap);
+    ) -> Result<Ran<'a>, Fault> {
+        let mut ran = Ran::new(self.heap, cue);
         for _ in 0..most {
             if ran.end.is_some() {
                 break;
             }
-            self.act(device, event, bytes, &mut ran)?;
+            self.act(device, &mut ran)?;
         }
         Ok(ran)
     }
 
     /// Power: memory is as at the start, and so many acts at most.
-    pub fn wake(&mut self, device: &mut Device, most: u64) -> Result<Ran, AllocError> {
+    pub fn wake(&mut self, device: &mut Device, most: u64) -> Result<Ran<'static>, Fault> {
         self.forget();
-        let room = device.room.to_be_bytes();
-        self.run(device, Event::Power, &room, most)
+        self.run(device, Cue::Power, most)
     }
 }

@@ -2,10 +2,10 @@
 
 #![tactic(auto)]
 
-use day::Day;
+use day::{Day, USUAL_ROOM};
 use fault::Fault;
+use random::Chance;
 use stage::Counts;
-use std::alloc::Global;
 use std::process::ExitCode;
 use std::{env, fs};
 
@@ -20,169 +20,96 @@ mod random;
 mod stage;
 mod tape;
 
-/// How many records a tape has room for unless it is said.
-const ROOM: u64 = 1_024;
-
-/// A seed, how many commands, and the room of a tape.
-struct Chance {
-    seed: u64,
-    steps: u64,
-    room: u64,
-}
-
-/// The random days that are always played.
-const CHANCES: [Chance; 6] = [
-    Chance {
-        seed: 1,
-        steps: 600,
-        room: 1_024,
-    },
-    Chance {
-        seed: 2,
-        steps: 600,
-        room: 1_024,
-    },
-    Chance {
-        seed: 3,
-        steps: 600,
-        room: 1_024,
-    },
-    Chance {
-        seed: 4,
-        steps: 900,
-        room: 1_500,
-    },
-    Chance {
-        seed: 5,
-        steps: 900,
-        room: 1_500,
-    },
-    Chance {
-        seed: 6,
-        steps: 900,
-        room: 1_500,
-    },
-];
-
 /// A day that shows a difference is printed as short as it can be found.
-fn differs(rt: &HostRuntime, day: &Day) -> Result<(), Fault> {
-    let short = stage::shortened(rt.alloc(), day)?;
-    short.write(&mut rt.stdout())?;
-    Err(Fault::Differs)
+fn print_short(rt: &HostRuntime, day: &Day) -> Result<(), Fault> {
+    stage::shortened(day)?.write(&mut rt.stdout())
 }
 
-/// What was tried.
-fn tell(rt: &HostRuntime, name: &str, counts: Counts) -> Result<(), Fault> {
-    let Counts {
-        commands,
-        refused,
-        no_room,
-        begun,
-        stops,
-        comparisons,
-    } = counts;
-    println!(rt; "{name}:")?;
-    println!(rt;
-        "  {commands} commands, {refused} refused, {no_room} of them for want of room; {begun} tapes begun"
-    )?;
-    println!(rt; "  {stops} stops, {comparisons} comparisons")?;
-    Ok(())
+/// What was tried, which is told.
+fn told(rt: &HostRuntime, name: &str, counts: Counts) -> Result<Counts, Fault> {
+    println!(rt; "{name}:\n{counts}")?;
+    Ok(counts)
 }
 
-fn play_once(rt: &HostRuntime, name: &str, day: &Day, counts: &mut Counts) -> Result<(), Fault> {
-    let mut own = Counts::none();
-    if stage::play(rt.alloc(), day, &mut own)?.is_some() {
-        return differs(rt, day);
+fn play_once(rt: &HostRuntime, name: &str, day: &Day) -> Result<Counts, Fault> {
+    let played = stage::play(day);
+    if let Err(Fault::Differs(_)) = &played {
+        print_short(rt, day)?;
     }
-    counts.add(own);
-    tell(rt, name, own)
+    told(rt, name, played?)
 }
 
-fn play_every(rt: &HostRuntime, name: &str, day: &Day, counts: &mut Counts) -> Result<(), Fault> {
-    let mut own = Counts::none();
-    if let Some(shown) = every::every(rt.alloc(), day, &mut own)? {
+fn play_every(rt: &HostRuntime, name: &str, day: &Day) -> Result<Counts, Fault> {
+    let played = every::every(day);
+    if let Err(Fault::Differs(trail)) = &played {
         println!(rt; "{name}:")?;
-        return differs(rt, &shown);
+        print_short(rt, &every::shown(day, *trail)?)?;
     }
-    counts.add(own);
-    tell(rt, name, own)
+    told(rt, name, played?)
 }
 
 /// The days that are always played.
-fn all(rt: &HostRuntime) -> Result<(), Fault> {
+fn all(rt: &HostRuntime) -> Result<Counts, Fault> {
     let heap = rt.alloc();
-    let mut counts = Counts::none();
-    for known in days::DAYS.iter() {
+    let mut counts = Counts::default();
+    for known in days::DAYS {
         let day = day::read(heap, known.text.as_bytes())?;
-        play_every(rt, known.name, &day, &mut counts)?;
+        counts += play_every(rt, known.name, &day)?;
     }
-    for chance in CHANCES.iter() {
-        let Chance { seed, steps, room } = chance;
-        let day = random::day(heap, *seed, *steps, *room)?;
+    let tight = (1..=3).map(|seed| Chance {
+        seed,
+        steps: 600,
+        room: USUAL_ROOM,
+    });
+    let wide = (4..=6).map(|seed| Chance {
+        seed,
+        steps: 900,
+        room: 1_500,
+    });
+    for chance in tight.chain(wide) {
+        let Chance { seed, room, .. } = chance;
         let name = format!(in heap; "random {seed}, room {room}")?;
-        play_once(rt, name.as_str(), &day, &mut counts)?;
+        counts += play_once(rt, name.as_str(), &chance.day(heap)?)?;
     }
-    tell(rt, "all", counts)
+    told(rt, "all", counts)
 }
 
-fn file(rt: &HostRuntime, name: &str) -> Result<Day, Fault> {
+fn file(rt: &HostRuntime, name: &String) -> Result<Day, Fault> {
     let text = fs::read(rt, name)?;
     day::read(rt.alloc(), text.as_slice())
 }
 
-fn number(text: Option<&String>, usual: Option<u64>) -> Result<u64, Fault> {
-    match (text, usual) {
-        (Some(text), _) => match text.as_str().parse::<u64>() {
-            Ok(number) => Ok(number),
-            Err(_) => Err(Fault::Usage),
-        },
-        (None, Some(usual)) => Ok(usual),
-        (None, None) => Err(Fault::Usage),
-    }
+fn number(word: &String) -> Result<u64, Fault> {
+    Ok(word.as_str().parse::<u64>()?)
 }
 
-fn words(rt: &HostRuntime, heap: Global) -> Result<Vec<String>, Fault> {
-    let mut words = Vec::new(heap);
-    for word in env::args(rt)?.skip(1) {
-        words.push(word)?;
-    }
-    Ok(words)
-}
-
-fn run(rt: &HostRuntime) -> Result<(), Fault> {
-    let heap = rt.alloc();
-    let words = words(rt, heap)?;
-    let mut counts = Counts::none();
-    let Some(first) = words.first() else {
-        return all(rt);
-    };
-    match (first.as_str(), words.get(1)) {
-        ("play", Some(name)) => play_once(
-            rt,
-            name.as_str(),
-            &file(rt, name.as_str())?,
-            &mut counts,
-        ),
-        ("every", Some(name)) => play_every(
-            rt,
-            name.as_str(),
-            &file(rt, name.as_str())?,
-            &mut counts,
-        ),
-        ("random", seed) => {
-            let seed = number(seed, None)?;
-            let steps = number(words.get(2), None)?;
-            let room = number(words.get(3), Some(ROOM))?;
-            let day = random::day(heap, seed, steps, room)?;
-            play_once(rt, "random", &day, &mut counts)
+fn obey(rt: &HostRuntime, verb: &str, words: &[String]) -> Result<Counts, Fault> {
+    match (verb, words) {
+        ("play", [name, ..]) => play_once(rt, name.as_str(), &file(rt, name)?),
+        ("every", [name, ..]) => play_every(rt, name.as_str(), &file(rt, name)?),
+        ("random", [seed, steps, rest @ ..]) => {
+            let chance = Chance {
+                seed: number(seed)?,
+                steps: number(steps)?,
+                room: rest.first().map_or(Ok(USUAL_ROOM), number)?,
+            };
+            play_once(rt, "random", &chance.day(rt.alloc())?)
         }
         _ => Err(Fault::Usage),
     }
 }
 
+fn run(rt: &HostRuntime) -> Result<Counts, Fault> {
+    let words: Vec<String> = env::args(rt)?.skip(1).collect(rt.alloc())?;
+    match words.as_slice() {
+        [] => all(rt),
+        [verb, words @ ..] => obey(rt, verb.as_str(), words),
+    }
+}
+
 fn main(rt: HostRuntime) -> ExitCode {
     match run(&rt) {
-        Ok(()) => ExitCode::SUCCESS,
+        Ok(_) => ExitCode::SUCCESS,
         Err(fault) => {
             let _ = eprintln!(rt; "player: {fault}");
             ExitCode::FAILURE

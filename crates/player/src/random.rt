@@ -1,14 +1,13 @@
 //! Days made by chance, the same for the same seed.
 
-use crate::day;
-use crate::day::{Day, Kind, Scene};
+use crate::day::{Day, Scene};
 use crate::fault::Fault;
 use crate::tape::{Stays, Stop};
-use std::alloc::{AllocError, Global};
+use std::alloc::Global;
 use std::io::Write;
 
 /// What can be read and isn't known yet, what can't be read, and what is seldom typed.
-const ODD: [&[u8]; 16] = [
+const ODD: &[&[u8]] = &[
     b"m0",
     b"2t$",
     b"ka",
@@ -27,11 +26,11 @@ const ODD: [&[u8]; 16] = [
     b"12345678901p",
 ];
 /// Lengths of lines at which the count of records changes, or that are too long.
-const EDGES: [u64; 12] = [
+const EDGES: &[usize] = &[
     502, 503, 504, 505, 1_005, 1_006, 1_007, 1_008, 1_022, 1_023, 1_024, 1_025,
 ];
 
-const NAMES: [&[u8]; 4] = [b"one", b"two", b"a name", b"y"];
+const NAMES: &[&[u8]] = &[b"one", b"two", b"a name", b"y"];
 
 /// Numbers by a linear congruence.
 #[derive(Drop)]
@@ -54,11 +53,8 @@ impl Dice {
         self.below(bound) == 0
     }
 
-    fn one_of(&mut self, texts: &[&'static [u8]]) -> &'static [u8] {
-        match texts.get(self.below(texts.len() as u64) as usize) {
-            Some(text) => *text,
-            None => b"",
-        }
+    fn one_of<T: Copy>(&mut self, these: &[T]) -> Option<T> {
+        these.get(self.below(these.len() as u64) as usize).copied()
     }
 
     fn stays(&mut self) -> Stays {
@@ -72,142 +68,154 @@ impl Dice {
         let most = if self.once_in(3) { 60 } else { 9 };
         Stop {
             acts: self.below(most),
-            first: self.stays(),
-            second: self.stays(),
+            stays: [self.stays(), self.stays()],
+        }
+    }
+
+    /// How long a line is.
+    fn length(&mut self) -> usize {
+        match self.below(48) {
+            0..=2 => 0,
+            3 => self.below(1_000) as usize,
+            4 | 5 => self.one_of(EDGES).unwrap_or(0),
+            _ => self.below(20) as usize,
         }
     }
 }
 
-fn push_address(dice: &mut Dice, text: &mut Vec<u8>) -> Result<(), Fault> {
-    match dice.below(8) {
-        0 => text.push(b'.')?,
-        1 => text.push(b'$')?,
-        2 => text.push(b'+')?,
-        3 => text.extend_from_slice(b"$-1")?,
-        _ => {
-            let number = dice.below(9);
-            write!(text, "{number}")?;
-        }
-    }
-    Ok(())
+/// Types what the dice say.
+#[derive(Drop)]
+struct Typist {
+    heap: Global,
+    dice: Dice,
+    text: Vec<u8>,
 }
 
-fn push_range(dice: &mut Dice, text: &mut Vec<u8>) -> Result<(), Fault> {
-    match dice.below(10) {
-        0 | 1 | 2 => {}
-        3 => text.push(b'%')?,
-        4 | 5 | 6 => push_address(dice, text)?,
-        7 => {
-            push_address(dice, text)?;
-            text.extend_from_slice(b";+")?;
-            push_address(dice, text)?;
-        }
-        _ => {
-            push_address(dice, text)?;
-            text.push(b',')?;
-            push_address(dice, text)?;
-        }
+impl Typist {
+    fn push(&mut self, bytes: &[u8]) -> Result<(), Fault> {
+        self.text.extend_from_slice(bytes)?;
+        Ok(())
     }
-    Ok(())
-}
 
-/// How long a line is.
-fn length(dice: &mut Dice) -> u64 {
-    match dice.below(48) {
-        0 | 1 | 2 => 0,
-        3 => dice.below(1_000),
-        4 | 5 => match EDGES.get(dice.below(12) as usize) {
-            Some(edge) => *edge,
-            None => 0,
-        },
-        _ => dice.below(20),
-    }
-}
-
-fn push_lines(dice: &mut Dice, text: &mut Vec<u8>) -> Result<(), Fault> {
-    for _ in 0..dice.below(5) {
-        text.push(b'\n')?;
-        let byte = b"abcdefgh"
-            .get(dice.below(8) as usize)
-            .copied()
-            .unwrap_or(b'z');
-        for _ in 0..length(dice) {
-            text.push(byte)?;
-        }
-    }
-    Ok(())
-}
-
-fn push_deed(dice: &mut Dice, text: &mut Vec<u8>) -> Result<(), Fault> {
-    let letter = b"aaaaiiccddddjpn=wwef\n"
-        .get(dice.below(21) as usize)
-        .copied();
-    match letter {
-        Some(b'\n') | None => {}
-        Some(letter) => text.push(letter)?,
-    }
-    match letter {
-        Some(b'a' | b'i' | b'c') => push_lines(dice, text)?,
-        Some(b'w' | b'e') => {
-            text.push(b' ')?;
-            text.extend_from_slice(dice.one_of(&NAMES))?;
-        }
-        _ => {}
-    }
-    Ok(())
-}
-
-/// Bytes that mean something to a reader, in any order.
-fn push_noise(dice: &mut Dice, text: &mut Vec<u8>) -> Result<(), Fault> {
-    let bytes = b"0139.$'/?+-,;%aicdjmtkpn=uUwerfsgv \\x&";
-    for _ in 0..dice.below(9) {
-        let byte = bytes.get(dice.below(bytes.len() as u64) as usize).copied();
-        text.push(byte.unwrap_or(b'.'))?;
-    }
-    Ok(())
-}
-
-fn typed(heap: Global, dice: &mut Dice) -> Result<Vec<u8>, Fault> {
-    let mut text = Vec::new(heap);
-    if dice.once_in(12) {
-        text.extend_from_slice(dice.one_of(&ODD))?;
-        return Ok(text);
-    }
-    push_range(dice, &mut text)?;
-    if dice.once_in(12) {
-        push_noise(dice, &mut text)?;
-    } else {
-        push_deed(dice, &mut text)?;
-    }
-    Ok(text)
-}
-
-/// A day of so many commands. After a stop power comes, and may stop again.
-pub fn day(heap: Global, seed: u64, steps: u64, room: u64) -> Result<Day, Fault> {
-    let mut dice = Dice { state: seed };
-    let mut day = day::empty(heap, room);
-    for _ in 0..steps {
-        let stop = if dice.once_in(6) {
-            Some(dice.stop())
-        } else {
-            None
-        };
-        let text = typed(heap, &mut dice)?;
-        day.scenes.push(Scene {
-            kind: Kind::Typed,
-            text,
-            stop,
-        })?;
-        for _ in 0..4 {
-            if stop.is_none() || !dice.once_in(3) {
-                break;
+    fn push_address(&mut self) -> Result<(), Fault> {
+        match self.dice.below(8) {
+            0 => self.push(b"."),
+            1 => self.push(b"$"),
+            2 => self.push(b"+"),
+            3 => self.push(b"$-1"),
+            _ => {
+                let number = self.dice.below(9);
+                write!(self.text, "{number}")?;
+                Ok(())
             }
-            day.scenes.push(Scene {
-                kind: Kind::Power,
-                text: Vec::new(heap),
-                stop: Some(dice.stop()),
-            })?;
         }
     }
-    Ok(day)
+
+    fn push_range(&mut self) -> Result<(), Fault> {
+        match self.dice.below(10) {
+            0..=2 => Ok(()),
+            3 => self.push(b"%"),
+            4..=6 => self.push_address(),
+            7 => {
+                self.push_address()?;
+                self.push(b";+")?;
+                self.push_address()
+            }
+            _ => {
+                self.push_address()?;
+                self.push(b",")?;
+                self.push_address()
+            }
+        }
+    }
+
+    fn push_lines(&mut self) -> Result<(), Fault> {
+        for _ in 0..self.dice.below(5) {
+            self.text.push(b'\n')?;
+            let byte = self.dice.one_of(b"abcdefgh").unwrap_or(b'z');
+            let end = self.text.len().saturating_add(self.dice.length());
+            self.text.resize(end, byte)?;
+        }
+        Ok(())
+    }
+
+    fn push_deed(&mut self) -> Result<(), Fault> {
+        let letter = self.dice.one_of(b"aaaaiiccddddjpn=wwef\n");
+        let Some(letter) = letter.filter(|letter| *letter != b'\n') else {
+            return Ok(());
+        };
+        self.text.push(letter)?;
+        match letter {
+            b'a' | b'i' | b'c' => self.push_lines(),
+            b'w' | b'e' => {
+                let name = self.dice.one_of(NAMES).unwrap_or(b"");
+                self.push(b" ")?;
+                self.push(name)
+            }
+            _ => Ok(()),
+        }
+    }
+
+    /// Bytes that mean something to a reader, in any order.
+    fn push_noise(&mut self) -> Result<(), Fault> {
+        for _ in 0..self.dice.below(9) {
+            let byte = self.dice.one_of(b"0139.$'/?+-,;%aicdjmtkpn=uUwerfsgv \\x&");
+            self.text.push(byte.unwrap_or(b'.'))?;
+        }
+        Ok(())
+    }
+
+    fn push_command(&mut self) -> Result<(), Fault> {
+        if self.dice.once_in(12) {
+            let odd = self.dice.one_of(ODD).unwrap_or(b"");
+            return self.push(odd);
+        }
+        self.push_range()?;
+        if self.dice.once_in(12) {
+            self.push_noise()
+        } else {
+            self.push_deed()
+        }
+    }
+
+    /// A command, and perhaps a stop in its midst.
+    fn typed(&mut self) -> Result<Scene, Fault> {
+        let stop = self.dice.once_in(6).then(|| self.dice.stop());
+        self.push_command()?;
+        let text = std::mem::replace(&mut self.text, Vec::new(self.heap));
+        Ok(Scene::Typed { text, stop })
+    }
+}
+
+/// A day made by chance: from which seed, of how many commands, and the room of its tapes.
+#[derive(Clone, Copy)]
+pub struct Chance {
+    pub seed: u64,
+    pub steps: u64,
+    pub room: u64,
+}
+
+impl Chance {
+    /// After a stop power comes, and may stop again.
+    pub fn day(self, heap: Global) -> Result<Day, Fault> {
+        let mut typist = Typist {
+            heap,
+            dice: Dice { state: self.seed },
+            text: Vec::new(heap),
+        };
+        let mut day = Day::new(heap, self.room);
+        for _ in 0..self.steps {
+            let scene = typist.typed()?;
+            let most = if scene.stop().is_some() { 4 } else { 0 };
+            day.scenes.push(scene)?;
+            for _ in 0..most {
+                if !typist.dice.once_in(3) {
+                    break;
+                }
+                let stop = typist.dice.stop();
+                day.scenes.push(Scene::Power(Some(stop)))?;
+            }
+        }
+        Ok(day)
+    }
 }

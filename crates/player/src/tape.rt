@@ -1,13 +1,14 @@
 //! Two tapes in memory, and what a stop leaves of the records that aren't fast yet.
 
+use crate::fault::Fault;
 use std::alloc::{AllocError, Global};
+use std::fmt;
+use std::num::Saturating;
 
 /// How many bytes a record has.
-const RECORD: usize = 512;
+pub const RECORD: usize = 512;
 /// How many of them are there where only half of it came.
 const HALF: usize = 256;
-
-const ZEROS: [u8; 256] = [0; 256];
 
 /// How many of a tape's loose records stay, and whether half of the next does.
 #[derive(Clone, Copy)]
@@ -20,12 +21,29 @@ pub struct Stays {
 #[derive(Clone, Copy)]
 pub struct Stop {
     pub acts: u64,
-    pub first: Stays,
-    pub second: Stays,
+    pub stays: [Stays; 2],
+}
+
+impl fmt::Display for Stays {
+    fn fmt<W: fmt::Write>(&self, f: &mut fmt::Formatter<W>) -> fmt::Result {
+        let Stays { count, is_half } = *self;
+        let half = u8::from(is_half);
+        write!(f, "{count} {half}")
+    }
+}
+
+impl fmt::Display for Stop {
+    fn fmt<W: fmt::Write>(&self, f: &mut fmt::Formatter<W>) -> fmt::Result {
+        let Stop {
+            acts,
+            stays: [first, second],
+        } = *self;
+        write!(f, "{acts} {first} {second}")
+    }
 }
 
 /// Records, the last so many of which might still go.
-#[derive(Drop)]
+#[derive(Clone, Drop)]
 struct Tape {
     bytes: Vec<u8>,
     loose: usize,
@@ -43,141 +61,110 @@ impl Tape {
         self.bytes.len() / RECORD
     }
 
-    fn copy(&self, heap: Global) -> Result<Tape, AllocError> {
-        Ok(Tape {
-            bytes: Vec::from_slice(heap, self.bytes.as_slice())?,
-            loose: self.loose,
-        })
-    }
-
     /// A record, or nothing behind the last.
     fn read(&self, record: u64) -> &[u8] {
         let from = (record as usize).saturating_mul(RECORD);
-        match self.bytes.as_slice().get(from..from.saturating_add(RECORD)) {
-            Some(bytes) => bytes,
-            None => &[],
-        }
+        self.bytes
+            .as_slice()
+            .get(from..from.saturating_add(RECORD))
+            .unwrap_or(&[])
     }
 
     /// What a stop leaves.
-    fn left(&self, heap: Global, stays: Stays) -> Result<Tape, AllocError> {
+    fn left(&self, stays: Stays) -> Result<Tape, AllocError> {
         let fast = self.records().saturating_sub(self.loose);
         let whole = fast.saturating_add(self.loose.min(stays.count as usize));
-        let from = whole.saturating_mul(RECORD);
-        let mut bytes = Vec::new(heap);
-        if let Some(kept) = self.bytes.as_slice().get(0..from) {
-            bytes.extend_from_slice(kept)?;
-        }
-        if stays.is_half
-            && let Some(half) = self.bytes.as_slice().get(from..from.saturating_add(HALF))
-        {
-            bytes.extend_from_slice(half)?;
-            bytes.extend_from_slice(&ZEROS)?;
+        let end = whole.saturating_mul(RECORD);
+        let mut bytes = self.bytes.clone()?;
+        if stays.is_half && end < bytes.len() {
+            bytes.truncate(end.saturating_add(HALF));
+            bytes.resize(end.saturating_add(RECORD), 0)?;
+        } else {
+            bytes.truncate(end);
         }
         Ok(Tape { bytes, loose: 0 })
     }
 }
 
 /// Two tapes that each have room for so many records; how often they were changed, fastened or begun, and begun.
-#[derive(Drop)]
+#[derive(Clone, Drop)]
 pub struct Device {
-    first: Tape,
-    second: Tape,
+    tapes: [Tape; 2],
     pub room: u64,
-    pub changes: u64,
-    pub turns: u64,
-    pub begun: u64,
+    pub changes: Saturating<u64>,
+    pub turns: Saturating<u64>,
+    pub begun: Saturating<u64>,
 }
 
 impl Device {
     pub fn new(heap: Global, room: u64) -> Device {
         Device {
-            first: Tape::new(heap),
-            second: Tape::new(heap),
+            tapes: [Tape::new(heap), Tape::new(heap)],
             room,
-            changes: 0,
-            turns: 0,
-            begun: 0,
+            changes: Saturating(0),
+            turns: Saturating(0),
+            begun: Saturating(0),
         }
     }
 
-    pub fn copy(&self, heap: Global) -> Result<Device, AllocError> {
-        Ok(Device {
-            first: self.first.copy(heap)?,
-            second: self.second.copy(heap)?,
-            room: self.room,
-            changes: self.changes,
-            turns: self.turns,
-            begun: self.begun,
-        })
+    /// The record that the house asks for by twice its number, and the tape.
+    pub fn read(&self, which: u64) -> &[u8] {
+        self.tapes[(which % 2) as usize].read(which / 2)
     }
 
-    fn tape(&self, number: u64) -> &Tape {
-        if number == 0 {
-            &self.first
-        } else {
-            &self.second
+    /// How many records of each tape might still go.
+    pub fn loose(&self) -> [usize; 2] {
+        let [first, second] = &self.tapes;
+        [first.loose, second.loose]
+    }
+
+    /// Whether a tape has more records than this.
+    pub fn is_longer_than(&self, records: usize) -> bool {
+        self.tapes.iter().any(|tape| tape.records() > records)
+    }
+
+    /// The tape of that number, which is changed. No device has another than 0 and 1.
+    fn changed(&mut self, tape: u64) -> Result<&mut Tape, Fault> {
+        self.changes += 1;
+        let both = &mut self.tapes;
+        let tapes = &mut both[..];
+        tapes.get_mut(tape as usize).ok_or_else(Fault::difference)
+    }
+
+    /// One record more, where there is room.
+    pub fn append(&mut self, tape: u64, record: &[u8]) -> Result<(), Fault> {
+        let room = self.room;
+        let tape = self.changed(tape)?;
+        if record.len() != RECORD || tape.records() as u64 >= room {
+            return Err(Fault::difference());
         }
-    }
-
-    fn tape_mut(&mut self, number: u64) -> &mut Tape {
-        self.changes = self.changes.saturating_add(1);
-        if number == 0 {
-            &mut self.first
-        } else {
-            &mut self.second
-        }
-    }
-
-    pub fn read(&self, tape: u64, record: u64) -> &[u8] {
-        self.tape(tape).read(record)
-    }
-
-    /// How many records of a tape might still go.
-    pub fn loose(&self, tape: u64) -> usize {
-        self.tape(tape).loose
-    }
-
-    /// How many records a tape has.
-    pub fn records(&self, tape: u64) -> usize {
-        self.tape(tape).records()
-    }
-
-    /// One record more; false where there is no room, or it is none.
-    pub fn append(&mut self, tape: u64, record: &[u8]) -> Result<bool, AllocError> {
-        if tape > 1 || record.len() != RECORD || self.tape(tape).records() as u64 >= self.room {
-            return Ok(false);
-        }
-        let tape = self.tape_mut(tape);
         tape.bytes.extend_from_slice(record)?;
         tape.loose = tape.loose.saturating_add(1);
-        Ok(true)
+        Ok(())
     }
 
     /// All that is on a tape is fast then.
-    pub fn fasten(&mut self, tape: u64) -> bool {
-        self.turns = self.turns.saturating_add(1);
-        self.tape_mut(tape).loose = 0;
-        tape <= 1
+    pub fn fasten(&mut self, tape: u64) -> Result<(), Fault> {
+        self.turns += 1;
+        self.changed(tape)?.loose = 0;
+        Ok(())
     }
 
-    pub fn begin(&mut self, tape: u64) -> bool {
-        self.turns = self.turns.saturating_add(1);
-        self.begun = self.begun.saturating_add(1);
-        let begun = self.tape_mut(tape);
+    pub fn begin(&mut self, tape: u64) -> Result<(), Fault> {
+        self.turns += 1;
+        self.begun += 1;
+        let begun = self.changed(tape)?;
         begun.bytes.clear();
         begun.loose = 0;
-        tape <= 1
+        Ok(())
     }
 
-    pub fn left(&self, heap: Global, stop: Stop) -> Result<Device, AllocError> {
+    pub fn left(&self, stop: Stop) -> Result<Device, AllocError> {
+        let [first, second] = &self.tapes;
+        let [of_first, of_second] = stop.stays;
         Ok(Device {
-            first: self.first.left(heap, stop.first)?,
-            second: self.second.left(heap, stop.second)?,
-            room: self.room,
-            changes: self.changes,
-            turns: self.turns,
-            begun: self.begun,
+            tapes: [first.left(of_first)?, second.left(of_second)?],
+            ..*self
         })
     }
 }
