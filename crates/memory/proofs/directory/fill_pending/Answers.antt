@@ -10,6 +10,3 @@ pub loop-i-preserved : goal.loop-i-preserved
 loop-i-preserved c =
     fill_one c.args.p c.loop-i.i _ c.args.memory.now c.loop-i.memory c.set.new.dir c.requires.0 (omega arith) (omega arith) c.loop-i.invariant refl
     c.set.ensures.entries c.set.ensures.spare
-
-pub returns : goal.returns
-returns c = c.loop-i.invariant ∙ ap (λ n. pending_filled c.args.p n c.args.memory.now) (omega arith)

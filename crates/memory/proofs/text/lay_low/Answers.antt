@@ -9,6 +9,3 @@ loop-i-init c = laid_none c.args.bytes.now c.args.cells.now
 
 pub loop-i-preserved : goal.loop-i-preserved
 loop-i-preserved c = laid_one c.args.bytes.now c.args.cells.now c.loop-i.cells c.loop-i.i c.loop-i-test.true (omega arith) c.loop-i.invariant
-
-pub returns : goal.returns
-returns c = c.loop-i.invariant ∙ ap (λ t. laid_low t c.args.cells.now) (take_all c.loop-i.i c.args.bytes.now (omega arith))

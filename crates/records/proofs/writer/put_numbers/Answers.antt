@@ -11,6 +11,3 @@ loop-i-preserved c =
     ∙ ap (λ t. put_mid (4 * c.loop-i.i) 4 t c.copy_from_slice.new.self) c.loop-i.invariant
     ∙ ap (λ t. put_mid (4 * c.loop-i.i) 4 (fours (take c.loop-i.i c.args.numbers.now) ++ drop (4 * c.loop-i.i) c.args.out.now) t) (c.copy_from_slice.ensures.after ∙ c.to_be_bytes.ensures)
     ∙ fours_next c.args.numbers.now c.args.out.now c.loop-i.i (4 * (c.loop-i.i + 1)) c.loop-i-test.true (omega arith)
-
-pub returns : goal.returns
-returns c = c.loop-i.invariant ∙ fours_all c.args.numbers.now c.args.out.now c.loop-i.i c.loop-i-test.false c.requires

@@ -11,6 +11,3 @@ returns-in_default c =
       | in_default-via-else-cs-lt1+then-cs-lt48 w ↦ omega (arith, ltb-true)
       | in_default-via-else-cs-lt1+else-cs-lt48+else-cs-lt58 w ↦ omega (arith, ltb-false)
     ]))
-
-pub returns-in-48-to-57 : goal.returns-in-48-to-57
-returns-in-48-to-57 c = c.number.ensures ∙ number_is_amount c.args.cs.now (omega (arith, ltb-false)) (omega (arith, ltb-false)) (omega (arith, ltb-true))
