@@ -1,4 +1,4 @@
-use Rattle.std.proofs.Common.{◌+◌, ◌*◌, ◌<◌, refl, ap, ◌∙◌, arith, take_all}
+use Rattle.std.proofs.Common.{◌+◌, ◌*◌, ◌<◌, refl, ap, ◌∙◌, arith}
 use Rattle.protocol.specs.Events.{from_eight}
 use Rattle.protocol.proofs.Eight.{eight-more, eight-below, eight_fits}
 use Rattle.protocol.proofs.from_eight.Goals as goal

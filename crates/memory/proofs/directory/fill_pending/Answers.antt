@@ -1,5 +1,4 @@
-use Rattle.std.proofs.Common.{refl, ap, ◌∙◌, arith}
-use Rattle.memory.specs.Sections.{pending_filled}
+use Rattle.std.proofs.Common.{refl, arith}
 use Rattle.memory.proofs.Splicing.{fill_none, fill_one}
 use Rattle.memory.proofs.directory.fill_pending.Goals as goal
 

@@ -1,7 +1,7 @@
 use Rattle.std.proofs.Common.{◌≡◌, ◌+◌, ◌-◌, ◌*◌, ap, mul-add, arith}
 use Rattle.memory.specs.Abstract.{text_of}
 use Rattle.memory.proofs.Texting.{text-long}
-use Rattle.memory.proofs.Counting.{summed-on, summed-place, summed_all, ends_later}
+use Rattle.memory.proofs.Counting.{summed-on, summed-place}
 use Rattle.memory.proofs.measures.total.Goals as goal
 
 pub line_end-end-requires : goal.line_end-end-requires

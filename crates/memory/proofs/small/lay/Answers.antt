@@ -1,5 +1,4 @@
-use Rattle.std.proofs.Common.{arith}
-use Rattle.memory.proofs.Filing.{laid_more, laid_all}
+use Rattle.memory.proofs.Filing.{laid_more}
 use Rattle.memory.proofs.small.lay.Goals as goal
 
 pub loop-i-preserved : goal.loop-i-preserved

@@ -1,6 +1,4 @@
-use Rattle.std.proofs.Common.{ap, ◌∙◌, arith}
-use Rattle.std.proofs.lemmas.List.{take_all}
-use Rattle.memory.specs.Sections.{laid_low}
+use Rattle.std.proofs.Common.{arith}
 use Rattle.memory.proofs.Texting.{laid_none, laid_one}
 use Rattle.memory.proofs.text.lay_low.Goals as goal
 

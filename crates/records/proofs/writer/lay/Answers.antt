@@ -1,5 +1,5 @@
 use Rattle.std.proofs.Common.{get_or, set, ap, ◌∙◌, arith}
-use Rattle.records.proofs.Writing.{laid, laid_all}
+use Rattle.records.proofs.Writing.{laid}
 use Rattle.records.proofs.writer.lay.Goals as goal
 
 pub loop-i-preserved : goal.loop-i-preserved

@@ -1,7 +1,7 @@
 use Rattle.std.proofs.Common.{◌≡◌, ◌+◌, ◌-◌, ◌*◌, ◌++◌, take, drop, ap, ◌∙◌, arith}
 use borrow.Rule.Slice.PartMut.{put_mid}
 use Rattle.records.specs.Pages.{fours}
-use Rattle.records.proofs.Writing.{fours_next, fours_all}
+use Rattle.records.proofs.Writing.{fours_next}
 use Rattle.records.proofs.writer.put_numbers.Goals as goal
 
 pub loop-i-preserved : goal.loop-i-preserved

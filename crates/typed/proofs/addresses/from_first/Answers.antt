@@ -1,9 +1,5 @@
-use Rattle.std.proofs.Common.{length, sym, ap, ◌∙◌, arith, rules}
-use Rattle.plain.specs.Pattern.{got}
-use Rattle.plain.specs.Command.{an_address}
-use Rattle.typed.specs.Meaning.{address_of}
-use Rattle.typed.specs.Answer.{from_first}
-use Rattle.typed.proofs.Fronts.{front, carried}
+use Rattle.std.proofs.Common.{length, ap, arith, rules}
+use Rattle.typed.proofs.Fronts.{front}
 use Rattle.typed.proofs.Shorter.{left_address}
 use Rattle.typed.proofs.addresses.from_first.Goals as goal
 

@@ -1,6 +1,6 @@
 use Rattle.std.proofs.Common.{arith, ltb-false, ltb-true}
 use Rattle.std.proofs.lemmas.List.{take_rest}
-use Rattle.typed.proofs.Digits.{start, one_more, too_many, all_read, no_digit, at_most}
+use Rattle.typed.proofs.Digits.{one_more, too_many, all_read, no_digit}
 use Rattle.typed.proofs.addresses.number.Goals as goal
 use Rattle.typed.proofs.addresses.number.Goals.{in_default, in_default-2, in_default-3}
 

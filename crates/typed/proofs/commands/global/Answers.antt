@@ -1,10 +1,5 @@
-use Rattle.std.proofs.Common.{[], length, sym, ap, ◌∙◌, arith, rules}
-use Rattle.plain.specs.Pattern.{pick, none, got, with_got}
-use Rattle.plain.specs.Command.{all_lines, up_to, simple, for_many}
-use Rattle.typed.specs.Meaning.{range_of}
-use Rattle.typed.specs.Meaning.{simple_of}
-use Rattle.typed.specs.Answer.{all_of}
-use Rattle.typed.proofs.Fronts.{tail_of, front, carried}
+use Rattle.std.proofs.Common.{length, ap, arith, rules}
+use Rattle.typed.proofs.Fronts.{tail_of, front}
 use Rattle.typed.proofs.Shorter.{left_up-to}
 use Rattle.typed.proofs.commands.global.Goals as goal
 
