@@ -1,5 +1,5 @@
-use Rattle.core_editor.proofs.Numbers.{parts_are}
-use Rattle.core_editor.proofs.rows.name.Goals as goal
+use Rattle.frontend.proofs.Numbers.{parts_are}
+use Rattle.frontend.proofs.rows.name.Goals as goal
 
 pub returns : goal.returns
 returns c =

@@ -1,7 +1,7 @@
 -- The number that eight bytes write, the highest first.
 use Rattle.std.proofs.Common.{◌≡◌, ℕ, ◌+◌, ◌-◌, ◌*◌, ◌≤◌, List, [], ◌∷◌, length, get_or, take, drop, ◌∙◌, arith, length-drop, take_all}
 use native.Mathlib.Nat.{sub-zero}
-use Rattle.core_house.specs.Entry.{from_eight}
+use Rattle.protocol.specs.Events.{from_eight}
 
 pub eight_is : (xs : List ℕ) → 8 ≤ length xs → get_or xs 0 0 * 72057594037927936 + get_or xs 1 0 * 281474976710656 + get_or xs 2 0 * 1099511627776 + get_or xs 3 0 * 4294967296 + get_or xs 4 0 * 16777216 + get_or xs 5 0 * 65536 + get_or xs 6 0 * 256 + get_or xs 7 0 ≡ from_eight 0 (take 8 xs)
 unfolding from_eight

@@ -1,0 +1,79 @@
+//! What the editors have in common: what is typed and shown, two files, and the acts that a house asks for.
+#![tactic(auto)]
+
+use fault::Fault;
+use options::Call;
+use protocol::Told;
+use session::Session;
+use std::alloc::Global;
+use std::fs::{File, TryLockError};
+use std::process::ExitCode;
+
+mod console;
+pub mod fault;
+mod machine;
+mod options;
+mod progress;
+mod refusal;
+mod rows;
+mod session;
+pub mod tape;
+pub mod terminals;
+mod typing;
+
+/// A machine that is told what happens and says what it wants done.
+pub trait House {
+    /// How many numbers its memory has.
+    const MEMORY: usize;
+    /// How many bytes the row has in which it hands out records and shown rows.
+    const ROW: usize;
+
+    /// One step. A kind is an `Event` as a number.
+    fn step(memory: &mut [u64], kind: u64, bytes: &[u8], row: &mut [u8]) -> Told;
+}
+
+/// What one editor has that another may have otherwise: its texts, and what it does for files and persons.
+pub trait Editor: House {
+    const NAME: &'static str;
+    const HELP: &'static str;
+    /// What `--version` prints, where there is such an option.
+    const VERSION: Option<&'static str>;
+    /// Its options, for one who gives another.
+    const OPTIONS: &'static str;
+
+    /// Keeps other editors away from a file.
+    fn lock(_file: &File) -> Result<(), TryLockError> {
+        Ok(())
+    }
+
+    /// Looks at both files before either is written.
+    fn inspect(_heap: Global, _tapes: &mut [tape::Tape; 2]) -> Result<(), Fault> {
+        Ok(())
+    }
+
+    /// Where it minds that a person is.
+    fn terminals(_rt: &HostRuntime) -> terminals::Terminals {
+        terminals::Terminals::default()
+    }
+}
+
+/// Does what the arguments say.
+fn call<E: Editor>(rt: &HostRuntime) -> Result<(), Fault> {
+    match options::read::<E>(rt)? {
+        Call::Print(text) => rt.print(text)?,
+        Call::Edit(options) => Session::<E>::open(rt, options)?.talk(rt)?,
+    }
+    Ok(())
+}
+
+/// Runs an editor as the arguments say.
+pub fn run<E: Editor>(rt: &HostRuntime) -> ExitCode {
+    match call::<E>(rt) {
+        Ok(()) => ExitCode::SUCCESS,
+        Err(fault) => {
+            let name = E::NAME;
+            let _ = eprintln!(rt; "{name}: {fault}");
+            ExitCode::FAILURE
+        }
+    }
+}
