@@ -10,8 +10,9 @@ use Rattle.memory.specs.declared.tapes.Tapes.{Tapes}
 use Rattle.memory.specs.declared.kept.Kept.{Kept}
 use Rattle.memory.specs.declared.registers.Registers.{Registers}
 use Rattle.memory.specs.Abstract.{house_of}
-use Rattle.commits.specs.declared.Told.TheVariants.{Append}
-use Rattle.commits.specs.Acts.{ActTold, Says}
+use Rattle.protocol.specs.declared.Told.TheVariants.{Append}
+use Rattle.protocol.specs.Acts.{ActTold}
+use Rattle.commits.specs.Acts.{Says}
 use Rattle.commits.specs.Setters.{in_phase, with_cursor, with_kept, with_tapes}
 use Rattle.commits.specs.News.{kept_by, applied_by, news_in}
 use Rattle.commits.specs.Putting.{target, target_longer, last_target, cursor_then, committed, put_commit}

@@ -2,7 +2,7 @@
 use Rattle.std.proofs.Common.{◌≡◌, ℕ, Bool, true, false, List, sym, subst}
 use Rattle.plain.specs.Pattern.{pick}
 use Rattle.memory.specs.declared.registers.Registers.{Registers}
-use Rattle.commits.specs.declared.Told.{Told}
+use Rattle.protocol.specs.declared.Told.{Told}
 use Rattle.commits.specs.Acts.{Made, Says}
 
 module _ (b : Bool) (d e : Made) (r : Registers) (m : List ℕ) (told : Told) (out out₁ : List ℕ) where

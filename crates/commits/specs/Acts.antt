@@ -1,9 +1,9 @@
--- What one step makes: registers, memory and an act; and how the act is told over a lent row of bytes. Assumes nothing: these are definitions.
-use Rattle.std.specs.Prelude.{◌≡◌, ℕ, ◌+◌, ◌*◌, List, ◌++◌, length, drop}
-use Rattle.plain.specs.Run.{Act, read, put_on, fasten, begin, shows, done, refused}
+-- What one step makes: registers, memory and an act; and how it is told. Assumes nothing: these are definitions.
+use Rattle.std.specs.Prelude.{◌≡◌, ℕ, List}
+use Rattle.plain.specs.Run.{Act}
+use Rattle.protocol.specs.Acts.{ActTold}
 use Rattle.memory.specs.declared.registers.Registers.{Registers}
-use Rattle.commits.specs.declared.Told.{Told}
-use Rattle.commits.specs.declared.Told.TheVariants.{Read, Append, Fasten, Begin, Shows, Done, No}
+use Rattle.protocol.specs.declared.Told.{Told}
 
 pub record Made : Type 0 where
   pub registers : Registers
@@ -12,16 +12,6 @@ pub record Made : Type 0 where
 
 abbrev pub made : Registers → List ℕ → Act → Made
 made r m a = record { registers = r; memory = m; act = a }
-
--- what is told of an act, and what of the lent row it fills: a record that is put on and a row that is shown stand at its front
-unfoldable pub ActTold : Act → Told → (out out₁ : List ℕ) → Type 0
-ActTold (read t k) r out out₁ = (r ≡ Read (2 * k + t)) × (out₁ ≡ out)
-ActTold (put_on t p) r out out₁ = (r ≡ Append t) × (out₁ ≡ p ++ drop (length p) out)
-ActTold (fasten t) r out out₁ = (r ≡ Fasten t) × (out₁ ≡ out)
-ActTold (begin t) r out out₁ = (r ≡ Begin t) × (out₁ ≡ out)
-ActTold (shows s) r out out₁ = (r ≡ Shows (length s)) × (out₁ ≡ s ++ drop (length s) out)
-ActTold done r out out₁ = (r ≡ Done) × (out₁ ≡ out)
-ActTold (refused k) r out out₁ = (r ≡ No k) × (out₁ ≡ out)
 
 -- a function left just this: registers, memory, what it told, and the row
 pub record Says (d : Made) (r₁ : Registers) (m₁ : List ℕ) (told : Told) (out out₁ : List ℕ) : Type 0 where

@@ -3,8 +3,8 @@ use Rattle.std.proofs.Common.{◌≡◌, ℕ, zero, suc, ◌+◌, ◌*◌, ◌%�
 use Rattle.memory.specs.declared.directory.Position.{Position}
 use Rattle.memory.specs.Sections.{words_in, entries_in, entry_at}
 use Rattle.memory.proofs.Entries.{Whole, whole-slots, whole_take}
-use Rattle.commits.specs.declared.Told.{Told}
-use Rattle.commits.specs.declared.Told.TheVariants.{Read}
+use Rattle.protocol.specs.declared.Told.{Told}
+use Rattle.protocol.specs.declared.Told.TheVariants.{Read}
 
 -- an entry has 21 bits
 small_in : (xs : List ℕ) (i : ℕ) → Whole xs → get_or xs i 0 < 2097152

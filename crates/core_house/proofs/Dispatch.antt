@@ -4,7 +4,7 @@ use Rattle.plain.specs.Device.{Page}
 use Rattle.memory.specs.declared.phase.Phase.{Phase}
 use Rattle.memory.specs.declared.phase.Phase.TheVariants.{Idle, WakeFirst, WakeSecond, Replaying, FreshBegun, FreshHead, FreshFast, CompactBegun, SettingUp, CarryRead, CarryPut, CompactFast, Switched, Fetching, RowShown, LinePut, CommitPut, CommitFast, CountShown, FileShown}
 use Rattle.memory.specs.declared.registers.Registers.{Registers}
-use Rattle.commits.specs.declared.Told.{Told}
+use Rattle.protocol.specs.declared.Told.{Told}
 use Rattle.commits.specs.Acts.{Says}
 use Rattle.commits.specs.Rows.{refuses}
 use Rattle.core_house.specs.Machine.{on_record, on_next}

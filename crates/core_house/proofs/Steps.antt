@@ -2,9 +2,10 @@
 use Rattle.std.proofs.Common.{◌≡◌, ℕ, ◌<◌, ◌≤◌, true, false, ◌≢◌, ◌⊎◌, List, length, sym, refl, ap, ◌∙◌, subst, arith, eq-eqb, le-leb}
 use Rattle.memory.specs.declared.registers.Registers.{Registers}
 use Rattle.memory.specs.Registers.{loaded, stored}
-use Rattle.commits.specs.declared.Told.{Told}
-use Rattle.commits.specs.declared.Told.TheVariants.{No}
-use Rattle.commits.specs.Acts.{ActTold, Says}
+use Rattle.protocol.specs.declared.Told.{Told}
+use Rattle.protocol.specs.declared.Told.TheVariants.{No}
+use Rattle.protocol.specs.Acts.{ActTold}
+use Rattle.commits.specs.Acts.{Says}
 use Rattle.core_house.specs.Machine.{answers}
 use Rattle.core_house.specs.Entry.{own, event_of, StepSays, step_fits}
 use Rattle.core_house.proofs.Right.{zeros-long, own_steps}

@@ -8,40 +8,19 @@ ghost use Rattle.plain.specs.Run.{Steady};
 ghost use Rattle.memory.specs.Registers.{Tame};
 ghost use Rattle.commits.specs.Acts.{Says};
 ghost use Rattle.core_house.specs.Machine.{on_record as recorded, on_next as proceeded, answers};
-ghost use Rattle.core_house.specs.Entry.{StepSays, event_of, from_eight as eighth, own, step_fits};
+ghost use Rattle.core_house.specs.Entry.{own};
+ghost use Rattle.protocol.specs.Events.{event_of, kind_number};
+ghost use Rattle.protocol.specs.Stepping.{StepSays, step_fits};
 
-pub use commits::Told;
 pub use memory::MEMORY;
 use memory::{Phase, Registers};
+use protocol::number_of;
+pub use protocol::{Event, Told};
 
 /// How many bytes the row at least has in which records and shown rows are handed out.
 pub const ROW: usize = 131_072;
-/// The last kind of event: power, a command, a record, go on.
-const LAST_KIND: u64 = 3;
 /// Said where the machine was told what it didn't ask for.
 const LOST: u64 = 999;
-
-/// The first eight bytes, or all where there are fewer.
-fn first_eight(bytes: &[u8]) -> &[u8]
-    ensures { result.now ≡ take 8 bytes.now }
-{
-    if bytes.len() < 8 {
-        return bytes;
-    }
-    &bytes[0..8]
-}
-
-/// The number that up to eight bytes write, the highest first.
-fn from_eight(bytes: &[u8]) -> u64
-    requires { length bytes.now ≤ 8 }
-    ensures { result ≡ eighth 0 bytes.now }
-{
-    let mut number: u64 = 0;
-    for byte in bytes {
-        number = number * 256 + u64::from(*byte);
-    }
-    number
-}
 
 /// The record came that was asked for, or nothing.
 fn on_record(registers: &mut Registers, memory: &mut [u64], out: &mut [u8], read: &[u8]) -> Told
@@ -90,17 +69,17 @@ fn answer(
     registers: &mut Registers,
     memory: &mut [u64],
     out: &mut [u8],
-    kind: u64,
+    event: Event,
     bytes: &[u8],
 ) -> Told
     requires { (length memory.old ≡ 262144) × ((131072 ≤ length out.old) × (Tame registers.old)) }
-    ensures { Says (answers registers.old memory.old (event_of kind bytes.now)) registers.new memory.new result out.old out.new }
+    ensures { Says (answers registers.old memory.old (event_of (kind_number event) bytes.now)) registers.new memory.new result out.old out.new }
 {
-    match kind {
-        0 => recovery::wake(registers, from_eight(first_eight(bytes))),
-        1 => execution::obey(registers, memory, out, bytes),
-        2 => on_record(registers, memory, out, bytes),
-        _ => on_next(registers, memory, out),
+    match event {
+        Event::Power => recovery::wake(registers, number_of(bytes)),
+        Event::Command => execution::obey(registers, memory, out, bytes),
+        Event::Record => on_record(registers, memory, out, bytes),
+        Event::Next => on_next(registers, memory, out),
     }
 }
 
@@ -108,28 +87,29 @@ fn answer(
 /// that was asked for or nothing, 3 that the last act is done. Where the memory has another length or the row is shorter, or for another kind, it says
 /// `No(0)` and changes nothing.
 pub fn step(memory: &mut [u64], kind: u64, bytes: &[u8], out: &mut [u8]) -> Told
-    ensures { StepSays memory.old kind bytes.now out.old (step_fits memory.old kind bytes.now out.old) result memory.new out.new }
+    ensures { StepSays own memory.old kind bytes.now out.old (step_fits own memory.old kind bytes.now out.old) result memory.new out.new }
 {
-    if memory.len() != MEMORY || kind > LAST_KIND || out.len() < ROW {
+    let Ok(event) = Event::try_from(kind) else {
+        return Told::No(0);
+    };
+    if memory.len() != MEMORY || out.len() < ROW {
         return Told::No(0);
     }
     let mut registers = Registers::load(memory);
-    let told = answer(&mut registers, memory, out, kind, bytes);
+    let told = answer(&mut registers, memory, out, event, bytes);
     registers.store(memory);
     told
 }
 
 /// The machine's memory keeps its length, and each of its numbers 64 bits, whatever it holds and is told.
-pub fn own_is_steady() -> u8
+pub fn own_is_steady()
     ensures { Steady own }
 {
-    0
 }
 
 /// For any list of typed lines and any stops, on tapes of any size: what is shown, how each command ends and what is kept is what the plain house
 /// of lists does, for all that the core knows.
-pub fn own_is_right() -> u8
+pub fn own_is_right()
     ensures { Whole core own }
 {
-    0
 }

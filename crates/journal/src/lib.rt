@@ -42,50 +42,43 @@ pub fn counting(first: u32, second: u32) -> Option<Tape>
 }
 
 /// A splice of the directory does the same to positions and to the lines that lie there.
-pub fn apply_natural() -> u8
+pub fn apply_natural()
     ensures { ApplyNatural }
 {
-    0
 }
 
 /// Replay sees neither lines that no commit follows, nor a torn record and what stands behind it.
-pub fn torn_tail_unseen() -> u8
+pub fn torn_tail_unseen()
     ensures { TornTailUnseen }
 {
-    0
 }
 
 /// A commit record changes the directory and the small state at once; a stop before it leaves both as they were.
-pub fn commit_all_at_once() -> u8
+pub fn commit_all_at_once()
     ensures { CommitAllAtOnce }
 {
-    0
 }
 
 /// A stop at any moment of a command leaves on the tape that counts the state before the command, or the one after it.
-pub fn stop_keeps_state() -> u8
+pub fn stop_keeps_state()
     ensures { StopKeepsState }
 {
-    0
 }
 
 /// When no entry of the directory lies on the old tape any more, the new one alone has the same lines and the same small state.
-pub fn compaction_keeps_lines() -> u8
+pub fn compaction_keeps_lines()
     ensures { CompactionKeepsLines }
 {
-    0
 }
 
 /// Neither tape gets full before all has been carried.
-pub fn no_full_tape() -> u8
+pub fn no_full_tape()
     ensures { NoFullTape }
 {
-    0
 }
 
 /// A command that carries entries to the other tape stays within the records that are granted to it.
-pub fn within_grant() -> u8
+pub fn within_grant()
     ensures { WithinGrant }
 {
-    0
 }

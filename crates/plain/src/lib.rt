@@ -7,85 +7,73 @@ ghost use Rattle.plain.specs.Promise.{AllOrNone, FastenedStays, MarksStay, Moved
 ghost use Rattle.plain.specs.Weight.{PutWeight, PutWeightBack, ZeroDiffers};
 
 /// No line's id is there twice, and the current line is no more than there are.
-pub fn stays_fair() -> u8
+pub fn stays_fair()
     ensures { StaysFair }
 {
-    0
 }
 
 /// Ids and the next id are at least 1.
-pub fn stays_numbered() -> u8
+pub fn stays_numbered()
     ensures { StaysNumbered }
 {
-    0
 }
 
 /// What was changed and taken back is as it was, and done again as it was then.
-pub fn undone_right() -> u8
+pub fn undone_right()
     ensures { UndoneRight }
 {
-    0
 }
 
 /// Moving loses no line and makes none, and those that aren't moved stay in their order.
-pub fn moved_same() -> u8
+pub fn moved_same()
     ensures { MovedSame }
 {
-    0
 }
 
 /// A refused command changes nothing.
-pub fn all_or_none() -> u8
+pub fn all_or_none()
     ensures { AllOrNone }
 {
-    0
 }
 
 /// A command that shows changes no line.
-pub fn shown_same() -> u8
+pub fn shown_same()
     ensures { ShownSame }
 {
-    0
 }
 
 /// A mark stays at its line, wherever that goes.
-pub fn marks_stay() -> u8
+pub fn marks_stay()
     ensures { MarksStay }
 {
-    0
 }
 
 /// What was fastened stays, whatever a stop leaves of later records and of the other tape.
-pub fn fastened_stays() -> u8
+pub fn fastened_stays()
     ensures { FastenedStays }
 {
-    0
 }
 
 /// What a stand weighs beside the one that comes of it by putting new lines in place of some.
-pub fn put_weight() -> u8
+pub fn put_weight()
     ensures { PutWeight }
 {
-    0
 }
 
 /// The same the other way round, as after it is undone.
-pub fn put_weight_back() -> u8
+pub fn put_weight_back()
     ensures { PutWeightBack }
 {
-    0
 }
 
 /// Why the weight of a splice is stated for ids of at least 1: a line with the id 0 would count as none.
-pub fn zero_differs() -> u8
+pub fn zero_differs()
     ensures { ZeroDiffers }
 {
-    0
 }
 
 /// A day with a shopping list shows and refuses what is listed, and leaves 4,807 bytes to be kept.
-pub fn shopping_list_stands() -> u8
+pub fn shopping_list_stands()
     ensures { ShoppingListStands }
 {
-    0
 }

@@ -96,29 +96,25 @@ pub enum Record<'a> {
 }
 
 /// What was written is read back, and may be put on a tape.
-pub fn page_back() -> u8
+pub fn page_back()
     ensures { PageBack }
 {
-    0
 }
 
 /// A page of which only the first half was written is broken, and so is one that isn't there.
-pub fn torn_broken() -> u8
+pub fn torn_broken()
     ensures { TornBroken }
 {
-    0
 }
 
 /// The pieces of a line make the line again, are as many as `records_for` says, and fit their pages.
-pub fn line_packed() -> u8
+pub fn line_packed()
     ensures { LinePacked }
 {
-    0
 }
 
 /// The page of a line, or of a copy, made into that of a copy for another index.
-pub fn recopied_right() -> u8
+pub fn recopied_right()
     ensures { RecopiedRight }
 {
-    0
 }

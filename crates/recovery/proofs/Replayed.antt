@@ -5,9 +5,10 @@ use Rattle.journal.specs.Log.{Rec}
 use Rattle.journal.specs.Small.{News}
 use Rattle.records.specs.Checked.{checked_record_of}
 use Rattle.memory.specs.declared.registers.Registers.{Registers}
-use Rattle.commits.specs.declared.Told.{Told}
-use Rattle.commits.specs.declared.Told.TheVariants.{Read}
-use Rattle.commits.specs.Acts.{ActTold, Says}
+use Rattle.protocol.specs.declared.Told.{Told}
+use Rattle.protocol.specs.declared.Told.TheVariants.{Read}
+use Rattle.protocol.specs.Acts.{ActTold}
+use Rattle.commits.specs.Acts.{Says}
 use Rattle.commits.specs.Setters.{with_used, with_tapes, with_kept}
 use Rattle.recovery.specs.Wake.{kept_with, memory_with, next_record, replay_by, replay_record}
 

@@ -6,9 +6,10 @@ use Rattle.journal.specs.Log.{neither, only, choose, head_of}
 use Rattle.records.specs.Checked.{checked_record_of}
 use Rattle.memory.specs.declared.phase.Phase.TheVariants.{FreshBegun, Replaying}
 use Rattle.memory.specs.declared.registers.Registers.{Registers}
-use Rattle.commits.specs.declared.Told.{Told}
-use Rattle.commits.specs.declared.Told.TheVariants.{Read, Begin}
-use Rattle.commits.specs.Acts.{ActTold, Says}
+use Rattle.protocol.specs.declared.Told.{Told}
+use Rattle.protocol.specs.declared.Told.TheVariants.{Read, Begin}
+use Rattle.protocol.specs.Acts.{ActTold}
+use Rattle.commits.specs.Acts.{Says}
 use Rattle.commits.specs.Setters.{tapes, in_phase, with_tapes}
 use Rattle.recovery.specs.Wake.{woke_second, wake_by}
 

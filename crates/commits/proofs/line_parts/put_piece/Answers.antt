@@ -4,8 +4,8 @@ use Rattle.records.specs.Pages.{page_of}
 use Rattle.engine.specs.Packing.{piece_of}
 use Rattle.memory.specs.declared.phase.Phase.TheVariants.{LinePut}
 use Rattle.memory.specs.Abstract.{text_of}
-use Rattle.commits.specs.declared.Told.TheVariants.{Append}
-use Rattle.commits.specs.Acts.{ActTold}
+use Rattle.protocol.specs.declared.Told.TheVariants.{Append}
+use Rattle.protocol.specs.Acts.{ActTold}
 use Rattle.commits.specs.Setters.{in_phase, with_kept, with_tapes}
 use Rattle.commits.specs.Putting.{first_line, put_piece}
 use Rattle.commits.proofs.Pieces.{line-long}

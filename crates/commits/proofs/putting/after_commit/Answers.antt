@@ -1,5 +1,5 @@
 use Rattle.std.proofs.Common.{refl}
-use Rattle.commits.specs.Acts.{ActTold}
+use Rattle.protocol.specs.Acts.{ActTold}
 use Rattle.commits.specs.Putting.{after_commit}
 use Rattle.commits.proofs.putting.after_commit.Goals as goal
 

@@ -4,9 +4,9 @@ use Rattle.engine.specs.Machine.{file_row, no_entry}
 use Rattle.memory.specs.Registers.{part}
 use Rattle.memory.specs.Sections.{files_in}
 use Rattle.memory.specs.Abstract.{file_at}
-use Rattle.commits.specs.Acts.{ActTold}
+use Rattle.protocol.specs.Acts.{ActTold}
 use Rattle.commits.specs.Rows.{show_files}
-use Rattle.commits.specs.declared.Told.TheVariants.{Shows}
+use Rattle.protocol.specs.declared.Told.TheVariants.{Shows}
 use Rattle.commits.proofs.Rowed.{file_is}
 use Rattle.commits.proofs.rows.show_files.Goals as goal
 

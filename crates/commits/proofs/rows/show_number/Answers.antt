@@ -1,6 +1,6 @@
 use Rattle.std.proofs.Common.{◌++◌, drop, refl, ap}
 use Rattle.plain.specs.Pattern.{in_bytes}
-use Rattle.commits.specs.Acts.{ActTold}
+use Rattle.protocol.specs.Acts.{ActTold}
 use Rattle.commits.proofs.rows.show_number.Goals as goal
 
 pub returns : goal.returns

@@ -2,8 +2,9 @@ use Rattle.std.proofs.Common.{◌+◌, ◌*◌, ◌<◌, ◌≤◌, sym, refl, s
 use Rattle.std.proofs.lemmas.Bool.{lt-ltb, le-ltb}
 use Rattle.engine.specs.Packing.{records_of}
 use Rattle.memory.specs.declared.phase.Phase.TheVariants.{CarryRead}
-use Rattle.commits.specs.declared.Told.TheVariants.{Read}
-use Rattle.commits.specs.Acts.{ActTold, Says}
+use Rattle.protocol.specs.declared.Told.TheVariants.{Read}
+use Rattle.protocol.specs.Acts.{ActTold}
+use Rattle.commits.specs.Acts.{Says}
 use Rattle.commits.specs.Setters.{carrying, with_cursor, in_phase, with_tapes, with_carrying}
 use Rattle.compaction.specs.Carry.{after_carry, carry}
 use Rattle.compaction.proofs.Placed.{Near, entry_near}

@@ -1,6 +1,6 @@
 use Rattle.std.proofs.Common.{sym, refl, ap, subst, arith}
 use Rattle.std.proofs.lemmas.Bool.{lt-ltb, le-ltb}
-use Rattle.commits.specs.Acts.{ActTold}
+use Rattle.protocol.specs.Acts.{ActTold}
 use Rattle.compaction.specs.Carry.{carry_entry}
 use Rattle.compaction.proofs.Placed.{Near, entry_near, read_of}
 use Rattle.compaction.proofs.entries.carry_entry.Goals as goal

@@ -1,6 +1,6 @@
 use Rattle.std.proofs.Common.{refl, add-one}
 use Rattle.memory.specs.declared.phase.Phase.TheVariants.{CarryPut}
-use Rattle.commits.specs.Acts.{ActTold}
+use Rattle.protocol.specs.Acts.{ActTold}
 use Rattle.commits.specs.Setters.{carrying, with_other, in_phase, with_tapes, with_carrying}
 use Rattle.compaction.specs.Carry.{carry_piece}
 use Rattle.compaction.proofs.Paged.{copy-laid}

@@ -1,5 +1,5 @@
 use Rattle.std.proofs.Common.{refl}
-use Rattle.commits.specs.Acts.{ActTold}
+use Rattle.protocol.specs.Acts.{ActTold}
 use Rattle.compaction.specs.Carry.{begin_other}
 use Rattle.compaction.proofs.tapes.begin_other.Goals as goal
 

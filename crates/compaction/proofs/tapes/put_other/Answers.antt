@@ -1,6 +1,6 @@
 use Rattle.std.proofs.Common.{refl, ap, add-one}
 use Rattle.memory.specs.declared.phase.Phase.TheVariants.{SettingUp}
-use Rattle.commits.specs.Acts.{ActTold}
+use Rattle.protocol.specs.Acts.{ActTold}
 use Rattle.commits.specs.Setters.{with_other, in_phase, with_tapes}
 use Rattle.compaction.proofs.tapes.put_other.Goals as goal
 

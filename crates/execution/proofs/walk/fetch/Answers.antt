@@ -1,7 +1,7 @@
 use Rattle.std.proofs.Common.{◌≡◌, ◌+◌, ◌*◌, refl, ap, ◌∙◌, arith}
 use Rattle.memory.specs.Sections.{entry_at}
-use Rattle.commits.specs.Acts.{ActTold}
-use Rattle.commits.specs.declared.Told.TheVariants.{Read}
+use Rattle.protocol.specs.Acts.{ActTold}
+use Rattle.protocol.specs.declared.Told.TheVariants.{Read}
 use Rattle.execution.specs.Walk.{line_entry, fetch}
 use Rattle.execution.proofs.Walked.{entry-tape, entry_record}
 use Rattle.execution.proofs.walk.fetch.Goals as goal

@@ -1,9 +1,9 @@
 use Rattle.std.proofs.Common.{◌++◌, drop, refl, ap, ◌∙◌}
 use Rattle.records.specs.Values.{piece_of}
 use Rattle.memory.specs.declared.phase.Phase.TheVariants.{RowShown}
-use Rattle.commits.specs.Acts.{ActTold}
+use Rattle.protocol.specs.Acts.{ActTold}
 use Rattle.commits.specs.Setters.{in_phase, with_walking}
-use Rattle.commits.specs.declared.Told.TheVariants.{Shows}
+use Rattle.protocol.specs.declared.Told.TheVariants.{Shows}
 use Rattle.execution.specs.Walk.{row_of}
 use Rattle.execution.proofs.Told.{says_by}
 use Rattle.execution.proofs.Walked.{show-more, show_last}

@@ -1,6 +1,6 @@
 use Rattle.std.proofs.Common.{refl}
 use Rattle.memory.specs.declared.phase.Phase.TheVariants.{FreshHead}
-use Rattle.commits.specs.Acts.{ActTold}
+use Rattle.protocol.specs.Acts.{ActTold}
 use Rattle.commits.specs.Setters.{in_phase, with_tapes, with_kept}
 use Rattle.compaction.proofs.Paged.{head-laid}
 use Rattle.recovery.specs.Wake.{fresh_first}

@@ -1,5 +1,5 @@
 use Rattle.std.proofs.Common.{refl}
-use Rattle.commits.specs.Acts.{ActTold}
+use Rattle.protocol.specs.Acts.{ActTold}
 use Rattle.recovery.specs.Wake.{fresh_next}
 use Rattle.recovery.proofs.fresh.fresh_next.Goals as goal
 

@@ -1,7 +1,7 @@
 use Rattle.std.proofs.Common.{false, refl}
 use Rattle.memory.specs.declared.phase.Phase.TheVariants.{WakeFirst}
 use Rattle.memory.specs.declared.job.Lines.TheVariants as lines
-use Rattle.commits.specs.Acts.{ActTold}
+use Rattle.protocol.specs.Acts.{ActTold}
 use Rattle.commits.specs.Setters.{registers, job, walking, putting, carrying}
 use Rattle.recovery.specs.Wake.{wake}
 use Rattle.recovery.proofs.heads.wake.Goals as goal

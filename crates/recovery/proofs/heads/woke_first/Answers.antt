@@ -1,6 +1,6 @@
 use Rattle.std.proofs.Common.{refl, ap}
 use Rattle.memory.specs.declared.phase.Phase.TheVariants.{WakeSecond}
-use Rattle.commits.specs.Acts.{ActTold}
+use Rattle.protocol.specs.Acts.{ActTold}
 use Rattle.commits.specs.Setters.{in_phase, with_tapes}
 use Rattle.recovery.specs.Wake.{woke_first, with_generation}
 use Rattle.recovery.proofs.heads.woke_first.Goals as goal

@@ -1,0 +1,3 @@
+pub mod Eight
+pub mod Numbered
+pub mod Stepping
