@@ -8,8 +8,10 @@ use thiserror::Error;
 /// What is wrong with the arguments.
 #[derive(Clone, Copy, Debug, Error)]
 pub enum Misuse {
-    #[error("there are only the options {0}")]
-    UnknownOption(&'static str),
+    #[error("there are only the options --room and --help")]
+    NotRoomOrHelp,
+    #[error("there are only the options --room, --help and --version")]
+    NotRoomHelpOrVersion,
     #[error("--room needs a number of records behind it")]
     NoRoom,
     #[error("the room is a number from 1024 to 1048576")]
@@ -70,10 +72,13 @@ impl fmt::Debug for Trouble {
 impl Trouble {
     /// The trouble as a fault of the file of that name.
     pub fn of(self, name: &String) -> Fault {
-        name.clone().map_or_else(Fault::from, |name| Fault::File {
-            name,
-            trouble: self,
-        })
+        name.clone().map_or_else(
+            Fault::from,
+            |name| Fault::File {
+                name,
+                trouble: self,
+            },
+        )
     }
 }
 

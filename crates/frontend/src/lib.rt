@@ -35,11 +35,10 @@ pub trait House {
 /// What one editor has that another may have otherwise: its texts, and what it does for files and persons.
 pub trait Editor: House {
     const NAME: &'static str;
+
     const HELP: &'static str;
     /// What `--version` prints, where there is such an option.
     const VERSION: Option<&'static str>;
-    /// Its options, for one who gives another.
-    const OPTIONS: &'static str;
 
     /// Keeps other editors away from a file.
     fn lock(_file: &File) -> Result<(), TryLockError> {

@@ -62,19 +62,23 @@ fn said_room(next: Option<String>) -> Result<u64, Misuse> {
     room_of(text.as_str()).ok_or(Misuse::BadRoom)
 }
 
+/// That there is no such option.
+fn unknown<E: Editor>() -> Fault {
+    Fault::Usage(E::VERSION.map_or(Misuse::NotRoomOrHelp, |_| Misuse::NotRoomHelpOrVersion))
+}
+
 /// What the arguments ask for.
 pub fn read<E: Editor>(rt: &HostRuntime) -> Result<Call, Fault> {
     let heap = rt.alloc();
-    let unknown = Fault::Usage(Misuse::UnknownOption(E::OPTIONS));
     let mut names = Vec::new(heap);
     let mut room = USUAL_ROOM;
     let mut args = env::args(rt)?.skip(1);
     while let Some(arg) = args.next() {
         match arg.as_str() {
             "--help" => return Ok(Call::Print(E::HELP)),
-            "--version" => return E::VERSION.map(Call::Print).ok_or(unknown),
+            "--version" => return E::VERSION.map(Call::Print).ok_or(unknown::<E>()),
             "--room" => room = said_room(args.next()).map_err(Fault::Usage)?,
-            other if other.starts_with("--") => return Err(unknown),
+            other if other.starts_with("--") => return Err(unknown::<E>()),
             _ => names.push(arg)?,
         }
     }

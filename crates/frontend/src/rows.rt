@@ -25,8 +25,8 @@ pub enum Rows {
 fn number(row: &[u8]) -> Option<(u64, &[u8])>
     ensures { MatchOption result (length row.now < 8) (λ p. (p.0 ≡ from_eight 0 (take 8 row.now)) × (p.1.now ≡ drop 8 row.now)) }
 {
-    let (number, rest) = row.split_first_chunk()?;
-    Some((u64::from_be_bytes(*number), rest))
+    let rest = row.get(8..)?;
+    Some((protocol::number_of(row), rest))
 }
 
 /// The name at the front of a file's row, and what stands behind it.

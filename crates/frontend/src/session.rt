@@ -1,6 +1,5 @@
 //! A session: the house is told that there is power, and then each command; each act that it wants is done.
 
-use crate::Editor;
 use crate::console::Console;
 use crate::fault::{Astray, Fault};
 use crate::machine::Machine;
@@ -10,7 +9,7 @@ use crate::refusal::Refused;
 use crate::rows::Rows;
 use crate::tape::{RECORD, Tapes};
 use crate::terminals::Terminals;
-use crate::typing;
+use crate::{Editor, typing};
 use protocol::{Event, Told};
 use std::io;
 use std::ops::ControlFlow;

@@ -125,8 +125,9 @@ impl Tape {
     /// What a power cut left of a last record is made a whole one, with zeros behind, and durable.
     fn mend(&mut self, rt: &HostRuntime) -> Result<(), Fault> {
         if self.records == 0 {
-            return sync_folder(rt, self.name.as_str())
-                .map_err(|reason| Trouble::Sync(reason).of(&self.name));
+            return sync_folder(rt, self.name.as_str()).map_err(|reason| Trouble::Sync(reason).of(
+                &self.name,
+            ));
         }
         // The other name may be of the same file, which is whole then.
         let facts = self
@@ -195,10 +196,13 @@ impl Tape {
 
 /// Looks at both tapes, and that their heads differ.
 pub fn inspect(heap: Global, tapes: &mut [Tape; 2]) -> Result<(), Fault> {
-    let [first, second] = tapes;
-    let generation = first.inspect(heap)?;
-    if generation == second.inspect(heap)? && generation != 0 {
-        return Err(Trouble::Damaged(TWINS).of(&second.name));
+    let mut other = 0;
+    for tape in tapes {
+        let generation = tape.inspect(heap)?;
+        if generation == other && generation != 0 {
+            return Err(Trouble::Damaged(TWINS).of(&tape.name));
+        }
+        other = generation;
     }
     Ok(())
 }
@@ -226,7 +230,9 @@ impl Tapes {
 
     /// Tape 0 or 1.
     pub fn get(&mut self, number: u64) -> Result<&mut Tape, Fault> {
-        self.tapes
+        let tapes = &mut self.tapes;
+        let tapes = &mut tapes[..];
+        tapes
             .get_mut(number as usize)
             .ok_or(Fault::House(Astray::Tape))
     }
