@@ -2,14 +2,8 @@
 
 #![tactic(auto)]
 
-use frontend::{Editor, House};
 use core_house::Told;
-use frontend::fault::Fault;
-use frontend::tape;
-use frontend::tape::Tape;
-use frontend::terminals::Terminals;
-use std::alloc::Global;
-use std::fs::{File, TryLockError};
+use frontend::{Editor, House};
 use std::process::ExitCode;
 
 /// The editor on the house that does the core commands.
@@ -17,6 +11,7 @@ struct Core;
 
 impl House for Core {
     const MEMORY: usize = core_house::MEMORY;
+
     const ROW: usize = core_house::ROW;
 
     fn step(memory: &mut [u64], kind: u64, bytes: &[u8], row: &mut [u8]) -> Told {
@@ -26,6 +21,7 @@ impl House for Core {
 
 impl Editor for Core {
     const NAME: &'static str = "core_editor";
+
     const HELP: &'static str = "usage: core_editor [--room RECORDS] [FILE0 FILE1]
        core_editor --help | --version
 
@@ -46,22 +42,11 @@ for all lines. What can't be done is refused by a number and changes nothing:
 1 can't be read, 2 isn't known yet, 3 no such file, 4 no such line, 7 a line of
 more than 1024 bytes or too many files, 8 no room.
 ";
+
     const VERSION: Option<&'static str> = Some(
         "core_editor, proved with rattle-kit-13f logic dac8208d650f15bf
 ",
     );
-
-    fn lock(file: &File) -> Result<(), TryLockError> {
-        file.try_lock()
-    }
-
-    fn inspect(heap: Global, tapes: &mut [Tape; 2]) -> Result<(), Fault> {
-        tape::inspect(heap, tapes)
-    }
-
-    fn terminals(rt: &HostRuntime) -> Terminals {
-        Terminals::of(rt)
-    }
 }
 
 fn main(rt: HostRuntime) -> ExitCode {

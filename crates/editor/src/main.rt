@@ -2,15 +2,18 @@
 
 #![tactic(auto)]
 
-use frontend::{Editor, House};
+use frontend::{Editor, Fault, House, Tape, Terminals};
 use house::Told;
+use std::alloc::Global;
+use std::fs::{File, TryLockError};
 use std::process::ExitCode;
 
-/// The editor on the house that refuses each command.
+/// The editor on the house that refuses each command, as it landed: it locks nothing, looks at no file beforehand and minds no person.
 struct Plain;
 
 impl House for Plain {
     const MEMORY: usize = house::MEMORY;
+
     const ROW: usize = house::ROW;
 
     fn step(memory: &mut [u64], kind: u64, bytes: &[u8], row: &mut [u8]) -> Told {
@@ -20,6 +23,7 @@ impl House for Plain {
 
 impl Editor for Plain {
     const NAME: &'static str = "editor";
+
     const HELP: &'static str = "usage: editor [--room RECORDS] [FILE0 FILE1]
 
 Edits a text that is kept in two files, house.0 and house.1 unless others are
@@ -35,7 +39,20 @@ Commands are read from standard input, one a line:
 An address alone shows that line. What can't be done is refused by a number:
 1 what can't be read, 2 what isn't known yet, which today is all of these.
 ";
+
     const VERSION: Option<&'static str> = None;
+
+    fn lock(_file: &File) -> Result<(), TryLockError> {
+        Ok(())
+    }
+
+    fn inspect(_heap: Global, _tapes: &mut [Tape; 2]) -> Result<(), Fault> {
+        Ok(())
+    }
+
+    fn terminals(_rt: &HostRuntime) -> Terminals {
+        Terminals::default()
+    }
 }
 
 fn main(rt: HostRuntime) -> ExitCode {

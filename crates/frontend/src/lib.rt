@@ -1,24 +1,29 @@
 //! What the editors have in common: what is typed and shown, two files, and the acts that a house asks for.
 #![tactic(auto)]
 
-use fault::Fault;
+ghost use Rattle.std.specs.Prelude.{◌≤◌};
+ghost use Rattle.std.specs.Process.{exit_status};
+
+pub use fault::Fault;
 use options::Call;
 use protocol::Told;
 use session::Session;
 use std::alloc::Global;
 use std::fs::{File, TryLockError};
 use std::process::ExitCode;
+pub use tape::Tape;
+pub use terminals::Terminals;
 
 mod console;
-pub mod fault;
+mod fault;
 mod machine;
 mod options;
 mod progress;
 mod refusal;
 mod rows;
 mod session;
-pub mod tape;
-pub mod terminals;
+mod tape;
+mod terminals;
 mod typing;
 
 /// A machine that is told what happens and says what it wants done.
@@ -32,7 +37,7 @@ pub trait House {
     fn step(memory: &mut [u64], kind: u64, bytes: &[u8], row: &mut [u8]) -> Told;
 }
 
-/// What one editor has that another may have otherwise: its texts, and what it does for files and persons.
+/// What one editor may have otherwise than another: its texts, and what it does for files and persons.
 pub trait Editor: House {
     const NAME: &'static str;
 
@@ -41,18 +46,18 @@ pub trait Editor: House {
     const VERSION: Option<&'static str>;
 
     /// Keeps other editors away from a file.
-    fn lock(_file: &File) -> Result<(), TryLockError> {
-        Ok(())
+    fn lock(file: &File) -> Result<(), TryLockError> {
+        file.try_lock()
     }
 
     /// Looks at both files before either is written.
-    fn inspect(_heap: Global, _tapes: &mut [tape::Tape; 2]) -> Result<(), Fault> {
-        Ok(())
+    fn inspect(heap: Global, tapes: &mut [Tape; 2]) -> Result<(), Fault> {
+        tape::inspect(heap, tapes)
     }
 
     /// Where it minds that a person is.
-    fn terminals(_rt: &HostRuntime) -> terminals::Terminals {
-        terminals::Terminals::default()
+    fn terminals(rt: &HostRuntime) -> Terminals {
+        Terminals::of(rt)
     }
 }
 
@@ -66,7 +71,9 @@ fn call<E: Editor>(rt: &HostRuntime) -> Result<(), Fault> {
 }
 
 /// Runs an editor as the arguments say.
-pub fn run<E: Editor>(rt: &HostRuntime) -> ExitCode {
+pub fn run<E: Editor>(rt: &HostRuntime) -> ExitCode
+    ensures { exit_status result ≤ 1 }
+{
     match call::<E>(rt) {
         Ok(()) => ExitCode::SUCCESS,
         Err(fault) => {

@@ -43,17 +43,14 @@ fn usual_names(heap: Global) -> Result<[String; 2], AllocError> {
 
 /// The names given, or those that are used where none is.
 fn two_names(heap: Global, names: Vec<String>) -> Result<[String; 2], Fault> {
-    let mut names = names.into_iter();
-    match (names.next(), names.next(), names.next()) {
-        (None, _, _) => Ok(usual_names(heap)?),
-        (Some(first), Some(second), None) => {
-            if first == second {
-                return Err(Fault::Usage(Misuse::SameFile));
-            }
-            Ok([first, second])
-        }
-        _ => Err(Fault::Usage(Misuse::Files)),
+    if names.is_empty() {
+        return Ok(usual_names(heap)?);
     }
+    let names = <[String; 2]>::try_from(names).map_err(|_| Fault::Usage(Misuse::Files))?;
+    if names[0] == names[1] {
+        return Err(Fault::Usage(Misuse::SameFile));
+    }
+    Ok(names)
 }
 
 /// The room that is said behind `--room`.

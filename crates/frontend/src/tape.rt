@@ -105,10 +105,7 @@ impl Tape {
         let mut tour = Tour::new();
         let mut pages = Vec::new(heap);
         let mut left = self.bytes;
-        for _ in 0..u64::MAX {
-            if left == 0 {
-                break;
-            }
+        while left > 0 {
             let here = left.min(BATCH);
             left -= here;
             pages.resize(here as usize, 0)?;
