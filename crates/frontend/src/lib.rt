@@ -33,7 +33,7 @@ pub trait House {
     /// How many bytes the row has in which it hands out records and shown rows.
     const ROW: usize;
 
-    /// One step. A kind is an `Event` as a number.
+    /// One step, over memory and a row that are lent. A kind is an `Event` as a number.
     fn step(memory: &mut [u64], kind: u64, bytes: &[u8], row: &mut [u8]) -> Told;
 }
 

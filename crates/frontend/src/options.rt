@@ -30,8 +30,9 @@ pub enum Call {
 fn room_of(text: &str) -> Option<u64>
     ensures { IfSome result (λ n. (1024 ≤ n) × (n ≤ 1048576)) }
 {
-    let room = text.parse().ok()?;
-    (LEAST_ROOM <= room && room <= MOST_ROOM).then_some(room)
+    text.parse()
+        .ok()
+        .filter(|room| (LEAST_ROOM..=MOST_ROOM).contains(room))
 }
 
 fn usual_names(heap: Global) -> Result<[String; 2], AllocError> {
