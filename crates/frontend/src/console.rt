@@ -1,7 +1,6 @@
 //! What is typed and what is shown: bytes, of which only the one that ends a line has a meaning.
 
 use crate::refusal::{Reason, Refused};
-use crate::rows;
 use crate::rows::Rows;
 use crate::terminals::Terminals;
 use std::io;
@@ -57,7 +56,7 @@ impl Console {
 
     /// A row that the house shows.
     pub fn show(&mut self, rows: Rows, row: &[u8]) -> io::Result<()> {
-        rows::write_row(&mut self.output, rows, row)
+        rows.write(&mut self.output, row)
     }
 
     /// That a command was refused, to a person in words too.

@@ -86,7 +86,7 @@ impl Trouble {
 #[derive(Debug, Drop, Error)]
 pub enum Fault {
     #[error("{0} (see --help)")]
-    Usage(Misuse),
+    Usage(#[from] Misuse),
     #[error("{name}: {trouble}")]
     File { name: String, trouble: Trouble },
     #[error("standard input or output: {0}")]
@@ -94,5 +94,5 @@ pub enum Fault {
     #[error("there is not enough memory")]
     Memory(#[from(alloc)] AllocError),
     #[error("{0}")]
-    House(Astray),
+    House(#[from] Astray),
 }

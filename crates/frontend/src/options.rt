@@ -47,7 +47,7 @@ fn two_names(heap: Global, names: Vec<String>) -> Result<[String; 2], Fault> {
     if names.is_empty() {
         return Ok(usual_names(heap)?);
     }
-    let names = <[String; 2]>::try_from(names).map_err(|_| Fault::Usage(Misuse::Files))?;
+    let names = <[String; 2]>::try_from(names).map_err(|_| Misuse::Files)?;
     if names[0] == names[1] {
         return Err(Fault::Usage(Misuse::SameFile));
     }
@@ -75,7 +75,7 @@ pub fn read<E: Editor>(rt: &HostRuntime) -> Result<Call, Fault> {
         match arg.as_str() {
             "--help" => return Ok(Call::Print(E::HELP)),
             "--version" => return E::VERSION.map(Call::Print).ok_or(unknown::<E>()),
-            "--room" => room = said_room(args.next()).map_err(Fault::Usage)?,
+            "--room" => room = said_room(args.next())?,
             other if other.starts_with("--") => return Err(unknown::<E>()),
             _ => names.push(arg)?,
         }

@@ -66,14 +66,16 @@ fn write_prompt<W: Write>(out: &mut W, row: &[u8]) -> io::Result<()> {
     out.write_all(b"> ")
 }
 
-/// A row as a line of text, a prompt without its end. One that hasn't the bytes that it should have is written as it is.
-pub fn write_row<W: Write>(out: &mut W, rows: Rows, row: &[u8]) -> io::Result<()> {
-    match rows {
-        Rows::Lines => out.write_all(row)?,
-        Rows::Numbered => write_numbered(out, row)?,
-        Rows::Counts => write_count(out, row)?,
-        Rows::Files => write_file(out, row)?,
-        Rows::Prompt => return write_prompt(out, row),
+impl Rows {
+    /// A row as a line of text, a prompt without its end. One that hasn't the bytes that it should have is written as it is.
+    pub fn write<W: Write>(self, out: &mut W, row: &[u8]) -> io::Result<()> {
+        match self {
+            Rows::Lines => out.write_all(row)?,
+            Rows::Numbered => write_numbered(out, row)?,
+            Rows::Counts => write_count(out, row)?,
+            Rows::Files => write_file(out, row)?,
+            Rows::Prompt => return write_prompt(out, row),
+        }
+        out.write_all(b"\n")
     }
-    out.write_all(b"\n")
 }

@@ -65,7 +65,7 @@ impl<E: Editor> Session<E> {
         let room = self.room.to_be_bytes();
         let mut progress = Progress::new(rt, self.terminals.errors)?;
         self.tell(Event::Power, &room, Rows::Lines, || progress.tick(rt))?
-            .map_err(|_| Fault::House(Astray::Power))?;
+            .map_err(|_| Astray::Power)?;
         progress.end(rt)?;
         Ok(())
     }

@@ -142,7 +142,7 @@ impl Tape {
     }
 
     /// A record in place of what `page` holds; nothing behind the last.
-    pub fn read(&mut self, record: u64, page: &mut Vec<u8>) -> Result<(), Fault> {
+    pub(crate) fn read(&mut self, record: u64, page: &mut Vec<u8>) -> Result<(), Fault> {
         page.clear();
         if record >= self.records {
             return Ok(());
@@ -159,7 +159,7 @@ impl Tape {
     }
 
     /// One record more.
-    pub fn append(&mut self, record: &[u8]) -> Result<(), Fault> {
+    pub(crate) fn append(&mut self, record: &[u8]) -> Result<(), Fault> {
         if self.records >= self.room {
             return Err(Fault::House(Astray::Full));
         }
@@ -171,14 +171,14 @@ impl Tape {
     }
 
     /// What is on it is durable then.
-    pub fn sync(&mut self) -> Result<(), Fault> {
+    pub(crate) fn sync(&mut self) -> Result<(), Fault> {
         self.file
             .sync_data()
             .map_err(|reason| Trouble::Sync(reason).of(&self.name))
     }
 
     /// Without records, and durably so before anything else is done.
-    pub fn begin(&mut self) -> Result<(), Fault> {
+    pub(crate) fn begin(&mut self) -> Result<(), Fault> {
         self.emptied()
             .map_err(|reason| Trouble::Begin(reason).of(&self.name))?;
         self.records = 0;

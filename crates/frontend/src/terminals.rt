@@ -11,7 +11,7 @@ pub struct Terminals {
 }
 
 impl Terminals {
-    pub fn of(rt: &HostRuntime) -> Terminals {
+    pub(crate) fn of(rt: &HostRuntime) -> Terminals {
         Terminals {
             input: rt.stdin().is_terminal(),
             output: rt.stdout().is_terminal(),
