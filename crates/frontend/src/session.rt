@@ -98,6 +98,7 @@ impl<E: Editor> Session<E> {
         requires { F.IsAlwaysCallable after_act }
     {
         let mut told = self.machine.tell(event, bytes);
+        // A `House` need not promise that its acts end, so they are counted.
         for _ in 0..u64::MAX {
             told = match self.act(told, rows)? {
                 ControlFlow::Continue(Event::Record) => self
