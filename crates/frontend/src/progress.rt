@@ -1,7 +1,6 @@
 //! What a person sees while a house wakes up that takes its time.
 
 use std::io;
-use std::io::IsTerminal;
 use std::time::Instant;
 
 /// The clock is looked at once in so many acts.
@@ -10,21 +9,19 @@ const PACE: u64 = 4_096;
 /// For how many seconds nothing is said.
 const PATIENCE: u64 = 1;
 
-/// Since when it goes on, how many acts were done, and whether that was said.
+/// Since when it goes on, where a person is to see that, how many acts were done, and whether that was said.
 #[derive(Drop)]
 pub struct Progress {
-    start: Instant,
+    start: Option<Instant>,
     acts: u64,
-    is_wanted: bool,
     is_said: bool,
 }
 
 impl Progress {
-    pub fn new(rt: &HostRuntime) -> io::Result<Progress> {
+    pub fn new(rt: &HostRuntime, is_wanted: bool) -> io::Result<Progress> {
         Ok(Progress {
-            start: Instant::now(rt)?,
+            start: is_wanted.then(|| Instant::now(rt)).transpose()?,
             acts: 0,
-            is_wanted: rt.stderr().is_terminal(),
             is_said: false,
         })
     }
@@ -32,10 +29,10 @@ impl Progress {
     /// One act more.
     pub fn tick(&mut self, rt: &HostRuntime) -> io::Result<()> {
         self.acts = self.acts.saturating_add(1);
-        if !self.is_wanted
-            || self.acts % PACE != 0
-            || self.start.elapsed(rt)?.as_secs() < PATIENCE
-        {
+        let Some(start) = self.start else {
+            return Ok(());
+        };
+        if self.acts % PACE != 0 || start.elapsed(rt)?.as_secs() < PATIENCE {
             return Ok(());
         }
         self.is_said = true;

@@ -1,8 +1,8 @@
 -- What the console has to know of a command: whether lines are typed behind it, and what its rows hold. Assumes nothing.
 use Rattle.std.specs.Prelude.{Bool, true, false, List, [], ◌∷◌}
 use Rattle.plain.specs.Command.{Deed, append, insert, change, delete, join, move, copy, mark, print, number, where_is, swap, go_to, undo, redo, save, edit, load, files, bad, Command, plain, all_lines}
-use Rattle.core_editor.specs.declared.rows.Rows.{Rows}
-use Rattle.core_editor.specs.declared.rows.Rows.TheVariants.{Lines, Numbered, Counts, Files}
+use Rattle.frontend.specs.declared.rows.Rows.{Rows}
+use Rattle.frontend.specs.declared.rows.Rows.TheVariants.{Lines, Numbered, Counts, Files}
 
 -- what the commands do, for many lines or a range
 abbrev pub deeds : List Command → List Deed

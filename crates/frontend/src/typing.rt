@@ -1,6 +1,6 @@
 //! What is typed: a command, with the lines that it is given.
 
-ghost use Rattle.core_editor.specs.Typing.{deeds, takes_lines, rows_of};
+ghost use Rattle.frontend.specs.Typing.{deeds, takes_lines, rows_of};
 ghost use Rattle.plain.specs.Command.{reads};
 ghost use Rattle.typed.specs.Answer.{listed};
 ghost use Rattle.typed.specs.Meaning.{deed_of};
@@ -9,7 +9,6 @@ ghost use Rattle.std.specs.Prelude.{◌≡◌};
 use crate::console::Console;
 use crate::fault::Fault;
 use crate::rows::Rows;
-use std::alloc::Global;
 use typed::{Command, Deed};
 
 /// What a command does to its lines, if it can be read.
@@ -17,8 +16,7 @@ fn deed(text: &[u8]) -> Option<Deed<'_>>
     ensures { listed deed_of result ≡ deeds (reads text.now) }
 {
     match typed::read(text)? {
-        Command::Plain(simple) => Some(simple.deed),
-        Command::Global { simple, .. } => Some(simple.deed),
+        Command::Plain(simple) | Command::Global { simple, .. } => Some(simple.deed),
     }
 }
 
@@ -26,10 +24,10 @@ fn deed(text: &[u8]) -> Option<Deed<'_>>
 fn takes_lines(line: &[u8]) -> bool
     ensures { result ≡ takes_lines (deeds (reads line.now)) }
 {
-    match deed(line) {
-        Some(Deed::Append(_) | Deed::Insert(_) | Deed::Change(_)) => true,
-        _ => false,
-    }
+    matches!(
+        deed(line),
+        Some(Deed::Append(_) | Deed::Insert(_) | Deed::Change(_))
+    )
 }
 
 /// What the rows of a command hold.
@@ -45,12 +43,13 @@ pub fn rows(text: &[u8]) -> Rows
 }
 
 /// Lines up to one with only a dot, or to the end of the input, each behind a byte 10.
-fn read_given(heap: Global, console: &mut Console, text: &mut Vec<u8>) -> Result<(), Fault> {
-    let mut line = Vec::new(heap);
+fn read_given(console: &mut Console, text: &mut Vec<u8>) -> Result<(), Fault> {
     for _ in 0..u64::MAX {
-        line.clear();
         console.ask_given()?;
-        if !console.read_line(&mut line)? || line.as_slice() == b".".as_slice() {
+        let Some(line) = console.read_line()? else {
+            break;
+        };
+        if line.as_slice() == b".".as_slice() {
             break;
         }
         text.push(b'\n')?;
@@ -59,18 +58,13 @@ fn read_given(heap: Global, console: &mut Console, text: &mut Vec<u8>) -> Result
     Ok(())
 }
 
-/// The next command in place of what `text` holds. False where the input has ended.
-pub fn read_command(
-    heap: Global,
-    console: &mut Console,
-    text: &mut Vec<u8>,
-) -> Result<bool, Fault> {
-    text.clear();
-    if !console.read_line(text)? {
-        return Ok(false);
-    }
+/// The next command, to the end of the input.
+pub fn read_command(console: &mut Console) -> Result<Option<Vec<u8>>, Fault> {
+    let Some(mut text) = console.read_line()? else {
+        return Ok(None);
+    };
     if takes_lines(text.as_slice()) {
-        read_given(heap, console, text)?;
+        read_given(console, &mut text)?;
     }
-    Ok(true)
+    Ok(Some(text))
 }

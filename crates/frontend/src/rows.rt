@@ -1,7 +1,7 @@
 //! Rows that the house shows, written for people.
 
 ghost use Rattle.std.specs.Prelude.{◌≡◌, ◌<◌, length, take, drop, IfSome, MatchOption};
-ghost use Rattle.core_house.specs.Entry.{from_eight};
+ghost use Rattle.protocol.specs.Events.{from_eight};
 
 use std::io;
 use std::io::Write;
@@ -25,13 +25,8 @@ pub enum Rows {
 fn number(row: &[u8]) -> Option<(u64, &[u8])>
     ensures { MatchOption result (length row.now < 8) (λ p. (p.0 ≡ from_eight 0 (take 8 row.now)) × (p.1.now ≡ drop 8 row.now)) }
 {
-    if row.len() < 8 {
-        return None;
-    }
-    let number = u64::from_be_bytes([
-        row[0], row[1], row[2], row[3], row[4], row[5], row[6], row[7],
-    ]);
-    Some((number, &row[8..]))
+    let rest = row.get(8..)?;
+    Some((protocol::number_of(row), rest))
 }
 
 /// The name at the front of a file's row, and what stands behind it.
@@ -39,11 +34,7 @@ fn name(row: &[u8]) -> Option<(&[u8], &[u8])>
     ensures { IfSome result (λ p. (p.0.now ≡ take (from_eight 0 (take 8 row.now)) (drop 8 row.now)) × (p.1.now ≡ drop (from_eight 0 (take 8 row.now)) (drop 8 row.now))) }
 {
     let (len, rest) = number(row)?;
-    if len > rest.len() as u64 {
-        return None;
-    }
-    let len = len as usize;
-    Some((&rest[0..len], &rest[len..]))
+    rest.split_at_checked(len as usize)
 }
 
 fn write_numbered<W: Write>(out: &mut W, row: &[u8]) -> io::Result<()> {
@@ -75,14 +66,16 @@ fn write_prompt<W: Write>(out: &mut W, row: &[u8]) -> io::Result<()> {
     out.write_all(b"> ")
 }
 
-/// A row as a line of text, a prompt without its end. One that hasn't the bytes that it should have is written as it is.
-pub fn write_row<W: Write>(out: &mut W, rows: Rows, row: &[u8]) -> io::Result<()> {
-    match rows {
-        Rows::Lines => out.write_all(row)?,
-        Rows::Numbered => write_numbered(out, row)?,
-        Rows::Counts => write_count(out, row)?,
-        Rows::Files => write_file(out, row)?,
-        Rows::Prompt => return write_prompt(out, row),
+impl Rows {
+    /// A row as a line of text, a prompt without its end. One that hasn't the bytes that it should have is written as it is.
+    pub fn write<W: Write>(self, out: &mut W, row: &[u8]) -> io::Result<()> {
+        match self {
+            Rows::Lines => out.write_all(row)?,
+            Rows::Numbered => write_numbered(out, row)?,
+            Rows::Counts => write_count(out, row)?,
+            Rows::Files => write_file(out, row)?,
+            Rows::Prompt => return write_prompt(out, row),
+        }
+        out.write_all(b"\n")
     }
-    out.write_all(b"\n")
 }
