@@ -100,8 +100,8 @@ impl Tape {
         })
     }
 
-    /// Looks at every record before any is believed. The generation that the head names comes back, 0 where there is none.
-    fn inspect(&mut self, heap: Global) -> Result<u32, Fault> {
+    /// Looks at every record before any is believed. The generation that the head names comes back.
+    fn inspect(&mut self, heap: Global) -> Result<Option<u32>, Fault> {
         let mut tour = Tour::new();
         let mut pages = Vec::new(heap);
         let mut left = self.bytes;
@@ -193,10 +193,10 @@ impl Tape {
 
 /// Looks at both tapes, and that their heads differ.
 pub fn inspect(heap: Global, tapes: &mut [Tape; 2]) -> Result<(), Fault> {
-    let mut other = 0;
+    let mut other = None;
     for tape in tapes {
         let generation = tape.inspect(heap)?;
-        if generation == other && generation != 0 {
+        if generation.is_some() && generation == other {
             return Err(Trouble::Damaged(TWINS).of(&tape.name));
         }
         other = generation;
