@@ -8,13 +8,6 @@ use Rattle.records.specs.Values.{low_bytes}
 use Rattle.journal.specs.Values.{news_of}
 use Rattle.commits.proofs.commit.put_page.Goals as goal
 
-pub encode_commit-requires : goal.encode_commit-requires
-encode_commit-requires c =
-    let n = c.args.registers.now.job.name in
-    let few : n ≤ 64 = c.requires.1.1.bounded.name in
-    let l : length c.kept_name-name.result.now ≡ min n (length (name_in c.args.memory.now)) = ap length c.kept_name-name.ensures ∙ length-take n (name_in c.args.memory.now) in
-    (omega arith, omega arith)
-
 pub returns : goal.returns
 unfolding name_of
 returns c =

@@ -14,9 +14,6 @@ returns-then-index-kept c =
     ∙ ap (λ u. laid (page_of (set_up u)) c.args.out.now)
     (ap (λ w. news 0 0 0 (push w)) c.weight_at-weight.ensures ∙ sym (set_up-push c.args.kept c.args.memory.now c.args.index c.requires.0 c.requires.1.1.0.ring c.if-index-kept.true))
 
-pub encode_also-requires-then-place-kept : goal.encode_also-requires-then-place-kept
-encode_also-requires-then-place-kept c = (c.requires.1.0, rw c.file_name.ensures (simp length-take (omega arith)))
-
 pub returns-then-place-kept : goal.returns-then-place-kept
 returns-then-place-kept c =
     let place = c.args.index - c.args.kept.ring in
