@@ -1,8 +1,6 @@
-use Rattle.std.proofs.Common.{◌≡◌, ◌≤◌, min, ◌++◌, length, drop, ap, ◌∙◌, arith}
-use Rattle.std.proofs.lemmas.List.{length-take}
+use Rattle.std.proofs.Common.{◌++◌, drop, ◌∙◌}
 use Rattle.journal.specs.Log.{commit}
 use Rattle.memory.specs.Abstract.{name_of}
-use Rattle.memory.specs.Sections.{name_in}
 use Rattle.records.specs.Pages.{page_of}
 use Rattle.records.specs.Values.{low_bytes}
 use Rattle.journal.specs.Values.{news_of}

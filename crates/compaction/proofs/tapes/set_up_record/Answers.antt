@@ -1,5 +1,4 @@
-use Rattle.std.proofs.Common.{◌-◌, sym, ap, ◌∙◌, arith}
-use Rattle.std.proofs.lemmas.List.{length-take}
+use Rattle.std.proofs.Common.{◌-◌, sym, ap, ◌∙◌}
 use Rattle.journal.specs.Log.{set_up}
 use Rattle.journal.specs.Small.{news, entry, push, slot}
 use Rattle.records.specs.Pages.{page_of}
