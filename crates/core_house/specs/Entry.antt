@@ -1,5 +1,5 @@
 -- The house itself as a machine. Assumes nothing: these are definitions.
-use Rattle.std.specs.Prelude.{ℕ, List, length, ◌==◌}
+use Rattle.std.specs.Prelude.{length, ◌==◌}
 use Rattle.plain.specs.Pattern.{pick}
 use Rattle.plain.specs.Run.{Engine, refused, Step}
 use Rattle.memory.specs.Registers.{loaded, stored}

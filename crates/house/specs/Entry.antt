@@ -1,6 +1,5 @@
 -- The house itself as a machine. Assumes nothing: these are definitions.
 use Rattle.std.specs.Prelude.{◌≡◌, ℕ, List}
-use Rattle.plain.specs.Pattern.{pick}
 use Rattle.plain.specs.Run.{Engine, Event}
 use Rattle.journal.specs.Machine.{coded}
 use Rattle.memory.specs.declared.registers.Registers.{Registers}

@@ -1,6 +1,6 @@
 use Rattle.std.proofs.Common.{arith}
 use Rattle.memory.specs.Abstract.{ring_of}
-use Rattle.execution.proofs.Sums.{ring-then, push_light, oldest_less}
+use Rattle.execution.proofs.Sums.{ring-then, push_light}
 use Rattle.execution.proofs.room.ring_after.Goals as goal
 
 pub returns-in-Push : goal.returns-in-Push
