@@ -2,6 +2,7 @@
 
 #![tactic(auto)]
 
+use lines::Cut;
 use std::alloc::Global;
 use std::time::Instant;
 
@@ -9,6 +10,7 @@ use std::time::Instant;
 const COUNT: usize = 500_000;
 
 const WORDS: usize = 174_763;
+
 /// How often each is done.
 const TURNS: u32 = 20;
 
@@ -35,17 +37,26 @@ fn time<F: FnMut()>(rt: &HostRuntime, what: &str, mut turn: F) -> anyhow::Result
     Ok(())
 }
 
+/// So many entries from the front.
+const fn front(gone: usize) -> Cut {
+    Cut {
+        count: COUNT,
+        from: 0,
+        gone,
+    }
+}
+
 fn run(rt: &HostRuntime) -> anyhow::Result<()> {
     let mut entries = filled(rt.alloc())?;
     let dir = entries.as_mut_slice();
     time(rt, "one entry put in at the front", || {
-        let _ = lines::splice(dir, COUNT, 0, 0, &[7]);
+        let _ = lines::splice(dir, front(0), &[7]);
     })?;
     time(rt, "one entry taken out at the front", || {
-        let _ = lines::splice(dir, COUNT, 0, 1, &[]);
+        let _ = lines::splice(dir, front(1), &[]);
     })?;
     time(rt, "20,000 entries duplicated to the front", || {
-        let _ = lines::duplicate(dir, COUNT, 0, 10_000, 400_000, 420_000);
+        let _ = lines::duplicate(dir, front(10_000), 400_000, 420_000);
     })?;
     time(rt, "the first entry moved behind the last", || {
         let _ = lines::rotate(dir, 0, 1, COUNT);
