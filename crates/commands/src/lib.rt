@@ -18,4 +18,4 @@ pub use laws::{
 };
 pub use plan::{Plan, Rows, Sizes, Slot, Span, Update, Walk};
 pub use refusal::Refusal;
-pub use weights::{file_total, no_room, stand_size, text_total};
+pub use weights::{FILE_WEIGHT, LINE_WEIGHT, file_total, no_room, stand_size, text_total};

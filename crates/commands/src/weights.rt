@@ -11,8 +11,10 @@ use crate::plan::Span;
 const STAND: u64 = 256;
 /// What a line weighs that has another line before it than it had.
 const BREAK: u64 = 64;
-/// What a file weighs by itself.
-const FILE: u64 = 128;
+/// What a line weighs besides its bytes.
+pub const LINE_WEIGHT: u64 = 64;
+/// What a file weighs besides its name and its lines.
+pub const FILE_WEIGHT: u64 = 128;
 
 /// Whether a line stands behind those that went, and another line before it than there was.
 fn moves_on(count: u64, span: Span, came: u64) -> bool
@@ -53,7 +55,7 @@ pub fn file_total(total: u64, found: bool, size: u64, came: u64, name: u64) -> u
     requires name_bound { name < 4294967296 }
     ensures { result ≡ file_total total found size came name }
 {
-    let itself = if found { 0 } else { FILE + name };
+    let itself = if found { 0 } else { FILE_WEIGHT + name };
     total - size + came + itself
 }
 

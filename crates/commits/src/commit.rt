@@ -15,9 +15,6 @@ use crate::{Told, clamp, news_of, numbers, splice, targets};
 use journal::Numbers;
 use memory::{Job, Kept, Phase, Registers};
 
-/// How many bytes a name has at most.
-const NAMES: usize = 64;
-
 /// Before which entry none is left to carry, after the splice: what it brings is on the other tape.
 fn cursor_then(registers: &Registers) -> u64
     requires { Loose registers.now }
@@ -69,7 +66,7 @@ fn apply(memory: &mut [u64], kept: Kept, job: Job, numbers: Numbers<u32>) -> Kep
     ensures kept { result ≡ kept_by kept (splice_of job.plan.splice) (news_of numbers (name_of job.name memory.old)) }
     ensures memory { memory.new ≡ applied_by kept (splice_of job.plan.splice) (news_of numbers (name_of job.name memory.old)) memory.old }
 {
-    apply_named(memory, kept, job, numbers, &mut [0u8; NAMES])
+    apply_named(memory, kept, job, numbers, &mut [0u8; memory::NAMES])
 }
 
 /// Puts on the commit of a command. Once it is on the last of the tapes that get it, it is applied in memory too.

@@ -16,7 +16,7 @@ use crate::{Told, targets};
 use memory::{Kept, Phase, Position, Putting, Registers};
 
 /// How many bytes of a line a record holds at most.
-const SHARE: u64 = 503;
+const SHARE: u64 = records::SHARE as u64;
 /// How many lines can be pending.
 const PENDING: u64 = 65_536;
 

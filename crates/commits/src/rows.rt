@@ -18,7 +18,9 @@ use commands::Rows;
 use memory::{Phase, Registers};
 
 /// How many bytes a number takes in a row.
-const NUMBER: usize = 8;
+pub const NUMBER: usize = 8;
+/// The number that is said where the machine was told what it didn't ask for, or finds what can't be.
+pub const LOST: u64 = 999;
 
 /// A command is done.
 pub fn end_done(registers: &mut Registers) -> Told

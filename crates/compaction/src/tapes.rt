@@ -19,6 +19,9 @@ use memory::{Carrying, Kept, Phase, Registers, Tapes, file_at, file_name, weight
 use protocol::Told;
 use records::{encode_commit, encode_head};
 
+/// More entries than there can be.
+pub const NO_LIMIT: u64 = 1_048_576;
+
 /// The other tape begins anew; then up to `quota` entries are carried.
 pub fn begin_other(registers: &mut Registers, quota: u64, waking: bool) -> Told
     requires { registers.old.tapes.active < 2 }

@@ -2,22 +2,27 @@
 
 #![tactic(auto)]
 
-use fault::Fault;
-use options::Call;
-use session::Session;
+use core_house::Told;
+use frontend::{Editor, House};
 use std::process::ExitCode;
 
-mod console;
-mod fault;
-mod options;
-mod progress;
-mod refusal;
-mod rows;
-mod session;
-mod tape;
-mod typing;
+/// The editor on the house that does the core commands.
+struct Core;
 
-const HELP: &str = "usage: core_editor [--room RECORDS] [FILE0 FILE1]
+impl House for Core {
+    const MEMORY: usize = core_house::MEMORY;
+
+    const ROW: usize = core_house::ROW;
+
+    fn step(memory: &mut [u64], kind: u64, bytes: &[u8], row: &mut [u8]) -> Told {
+        core_house::step(memory, kind, bytes, row)
+    }
+}
+
+impl Editor for Core {
+    const NAME: &'static str = "core_editor";
+
+    const HELP: &'static str = "usage: core_editor [--room RECORDS] [FILE0 FILE1]
        core_editor --help | --version
 
 Edits a text that is kept in two files, house.0 and house.1 unless others are
@@ -38,25 +43,12 @@ for all lines. What can't be done is refused by a number and changes nothing:
 more than 1024 bytes or too many files, 8 no room.
 ";
 
-const VERSION: &str = "core_editor, proved with rattle-kit-13f logic dac8208d650f15bf
-";
-
-/// Runs the editor as the arguments say.
-fn run(rt: &HostRuntime) -> Result<(), Fault> {
-    match options::read(rt)? {
-        Call::Help => rt.print(HELP)?,
-        Call::Version => rt.print(VERSION)?,
-        Call::Edit(options) => Session::open(rt, options)?.talk(rt)?,
-    }
-    Ok(())
+    const VERSION: Option<&'static str> = Some(
+        "core_editor, proved with rattle-kit-13f logic dac8208d650f15bf
+",
+    );
 }
 
 fn main(rt: HostRuntime) -> ExitCode {
-    match run(&rt) {
-        Ok(()) => ExitCode::SUCCESS,
-        Err(fault) => {
-            let _ = eprintln!(rt; "core_editor: {fault}");
-            ExitCode::FAILURE
-        }
-    }
+    frontend::run::<Core>(&rt)
 }

@@ -15,14 +15,10 @@ ghost use Rattle.protocol.specs.Stepping.{StepSays, step_fits};
 pub use memory::MEMORY;
 use memory::{Phase, Registers};
 use protocol::number_of;
-pub use protocol::{Event, Told};
+pub use protocol::{Event, ROW, Told};
 
-/// How many bytes the row at least has in which records and shown rows are handed out.
-pub const ROW: usize = 131_072;
-/// Said where the machine was told what it didn't ask for.
-const LOST: u64 = 999;
-
-/// The record came that was asked for, or nothing.
+/// The record came that was asked for, or nothing. Which step comes is a match, here and in `on_next`: the phase is a number in the fixed memory, where no
+/// closure could be kept.
 fn on_record(registers: &mut Registers, memory: &mut [u64], out: &mut [u8], read: &[u8]) -> Told
     requires { (length memory.old ≡ 262144) × ((131072 ≤ length out.old) × (Tame registers.old)) }
     ensures { Says (recorded registers.old.phase read.now registers.old memory.old) registers.new memory.new result out.old out.new }
@@ -33,7 +29,7 @@ fn on_record(registers: &mut Registers, memory: &mut [u64], out: &mut [u8], read
         Phase::Replaying => recovery::replay_record(registers, memory, read),
         Phase::CarryRead => compaction::carry_piece(registers, read, out),
         Phase::Fetching => execution::fetched(registers, memory, out, read),
-        _ => commits::refuse(registers, LOST),
+        _ => commits::refuse(registers, commits::LOST),
     }
 }
 
@@ -60,7 +56,7 @@ fn on_next(registers: &mut Registers, memory: &mut [u64], out: &mut [u8]) -> Tol
             let next = registers.carrying.index + 1;
             commits::show_files(registers, memory, out, next)
         }
-        _ => commits::refuse(registers, LOST),
+        _ => commits::refuse(registers, commits::LOST),
     }
 }
 
@@ -104,12 +100,10 @@ pub fn step(memory: &mut [u64], kind: u64, bytes: &[u8], out: &mut [u8]) -> Told
 /// The machine's memory keeps its length, and each of its numbers 64 bits, whatever it holds and is told.
 pub fn own_is_steady()
     ensures { Steady own }
-{
-}
+{}
 
 /// For any list of typed lines and any stops, on tapes of any size: what is shown, how each command ends and what is kept is what the plain house
 /// of lists does, for all that the core knows.
 pub fn own_is_right()
     ensures { Whole core own }
-{
-}
+{}

@@ -2,20 +2,29 @@
 
 #![tactic(auto)]
 
-use fault::Fault;
-use options::Call;
-use session::Session;
+use frontend::{Editor, Fault, House, Tape, Terminals};
+use house::Told;
+use std::alloc::Global;
+use std::fs::{File, TryLockError};
 use std::process::ExitCode;
 
-mod console;
-mod fault;
-mod options;
-mod rows;
-mod session;
-mod tape;
-mod typing;
+/// The editor on the house that refuses each command, as it landed: it locks nothing, looks at no file beforehand and minds no person.
+struct Plain;
 
-const HELP: &str = "usage: editor [--room RECORDS] [FILE0 FILE1]
+impl House for Plain {
+    const MEMORY: usize = house::MEMORY;
+
+    const ROW: usize = house::ROW;
+
+    fn step(memory: &mut [u64], kind: u64, bytes: &[u8], row: &mut [u8]) -> Told {
+        house::step(memory, kind, bytes, row)
+    }
+}
+
+impl Editor for Plain {
+    const NAME: &'static str = "editor";
+
+    const HELP: &'static str = "usage: editor [--room RECORDS] [FILE0 FILE1]
 
 Edits a text that is kept in two files, house.0 and house.1 unless others are
 named. They are made where they aren't there. RECORDS, from 1024 to 1048576,
@@ -31,23 +40,21 @@ An address alone shows that line. What can't be done is refused by a number:
 1 what can't be read, 2 what isn't known yet, which today is all of these.
 ";
 
-/// Runs the editor as the arguments say.
-fn run(rt: &HostRuntime) -> Result<(), Fault> {
-    match options::read(rt)? {
-        Call::Help => {
-            rt.print(HELP)?;
-            Ok(())
-        }
-        Call::Edit(options) => Session::open(rt, options)?.talk(),
+    const VERSION: Option<&'static str> = None;
+
+    fn lock(_file: &File) -> Result<(), TryLockError> {
+        Ok(())
+    }
+
+    fn inspect(_heap: Global, _tapes: &mut [Tape; 2]) -> Result<(), Fault> {
+        Ok(())
+    }
+
+    fn terminals(_rt: &HostRuntime) -> Terminals {
+        Terminals::default()
     }
 }
 
 fn main(rt: HostRuntime) -> ExitCode {
-    match run(&rt) {
-        Ok(()) => ExitCode::SUCCESS,
-        Err(fault) => {
-            let _ = eprintln!(rt; "editor: {fault}");
-            ExitCode::FAILURE
-        }
-    }
+    frontend::run::<Plain>(&rt)
 }

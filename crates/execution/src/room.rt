@@ -15,19 +15,15 @@ ghost use Rattle.commits.specs.Setters.{carrying as carries};
 ghost use Rattle.execution.specs.Room.{AlsoLight, NewsLight};
 ghost use Rattle.execution.specs.Walk.{need as needed, job_size as sized, quota_of as quotas, prepare as prepares, weigh as weighs};
 
-use commands::Refusal;
+use commands::{FILE_WEIGHT, Refusal};
 use commits::{news_of, refuse, start_pass};
-use compaction::{begin_other, carry};
+use compaction::{NO_LIMIT, begin_other, carry};
 use journal::{Also, Numbers, Source};
 use memory::{Carrying, Kept, Registers};
 use protocol::Told;
 
-/// What a file weighs by itself.
-const FILE: u64 = 128;
 /// How many entries are carried for each line of a command.
 const CARRIED: u64 = 16;
-/// More entries than there can be.
-const NO_LIMIT: u64 = 1_048_576;
 
 /// How many records a command takes: its lines, and a commit.
 fn need(registers: &Registers, memory: &[u64]) -> u64
@@ -81,7 +77,7 @@ fn weight_at(memory: &[u64], files: u64, slot: u64) -> u64
         return 0;
     }
     let file = memory::file_at(memory, slot);
-    FILE + file.name + file.size
+    FILE_WEIGHT + file.name + file.size
 }
 
 /// What all files weigh after a commit, by the length of the name that the command has.
@@ -97,7 +93,7 @@ fn files_after(memory: &[u64], files: u64, also: Also<u64>, name: u64) -> u64
             slot,
             weight: size,
             ..
-        } => weight - weight_at(memory, files, slot) + (FILE + name + size),
+        } => weight - weight_at(memory, files, slot) + (FILE_WEIGHT + name + size),
     }
 }
 

@@ -14,20 +14,14 @@ ghost use Rattle.commits.specs.Setters.{walking as walked, with_job};
 ghost use Rattle.execution.specs.Walk.{fetch as fetches, lines_then, walk_on as WalkedOn, line_past as past, next_part, joined_memory, more_parts as partly, row_of, show_piece as shown, too_long as exceeding, glue_piece as glued, fetched as came};
 
 use crate::room::weigh;
-use commands::{Refusal, Walk};
-use commits::{put_number, refuse};
+use commands::{LINE_WEIGHT, Refusal, Walk};
+use commits::{LOST, NUMBER, put_number, refuse};
 use memory::{Job, Lines, Phase, Registers, Walking};
 use protocol::Told;
 use records::Piece;
 
-/// What a line weighs besides its bytes.
-const LINE: u64 = 64;
 /// The most bytes of a line.
-const LONGEST: u64 = 1_024;
-/// How many bytes a number takes before a line.
-const NUMBER: usize = 8;
-/// Said where nothing else can be.
-const LOST: u64 = 999;
+const LONGEST: u64 = typed::LONGEST as u64;
 
 /// Asks for the next record of the line that is walked over.
 fn fetch(registers: &mut Registers, memory: &[u64]) -> Told
@@ -93,7 +87,7 @@ fn line_past(walking: Walking, long: u64, bytes: u64) -> Walking
     Walking {
         line: walking.line + 1,
         part: 0,
-        went: walking.went + (LINE + long),
+        went: walking.went + (LINE_WEIGHT + long),
         bytes,
     }
 }

@@ -14,10 +14,7 @@ use commands::Refusal;
 pub use memory::MEMORY;
 use memory::{Phase, Registers};
 use protocol::number_of;
-pub use protocol::{Event, Told};
-
-/// How many bytes the row at least has in which records and shown rows are handed out.
-pub const ROW: usize = 131_072;
+pub use protocol::{Event, ROW, Told};
 
 /// Why a command is refused: it can't be read, or it isn't known yet.
 fn refusal(typed: &[u8]) -> Refusal
@@ -52,7 +49,8 @@ fn answer(registers: &mut Registers, event: Event, bytes: &[u8]) -> Told
 
 /// One step: what is told is 0 power, with the records that a tape has room for as eight bytes, the highest first; 1 a command, 2 a record
 /// that was asked for or nothing, 3 that the last act is done. Where the memory has another length or the row is shorter, or for another kind, it says
-/// `No(0)` and changes nothing.
+/// `No(0)` and changes nothing. `core_house::step` has the same frame; each speaks of its own engine, and a shared one would take a closure whose clause is
+/// longer than the frame.
 pub fn step(memory: &mut [u64], kind: u64, bytes: &[u8], out: &mut [u8]) -> Told
     ensures { StepSays own memory.old kind bytes.now out.old (step_fits own memory.old kind bytes.now out.old) result memory.new out.new }
 {
@@ -71,12 +69,10 @@ pub fn step(memory: &mut [u64], kind: u64, bytes: &[u8], out: &mut [u8]) -> Told
 /// The machine's memory keeps its length, and each of its numbers 64 bits, whatever it holds and is told.
 pub fn own_is_steady()
     ensures { Steady own }
-{
-}
+{}
 
 /// For any list of typed lines and any stops, on tapes of any size, the machine refuses what can't be read with 1 and everything else with 2,
 /// shows nothing and keeps nothing.
 pub fn own_is_right()
     ensures { Whole nothing own }
-{
-}
+{}

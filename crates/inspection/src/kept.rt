@@ -47,7 +47,7 @@ impl Kept {
     }
 
     /// How many entries come by a splice, if they are there.
-    fn came(&self, source: Source) -> Result<u64, Wrong> {
+    fn came(&self, source: Source<u32>) -> Result<u64, Wrong> {
         match source {
             Source::Nothing => Ok(0),
             Source::New => Ok(self.pending),
@@ -60,7 +60,7 @@ impl Kept {
         }
     }
 
-    fn splice(&mut self, splice: Splice) -> Result<(), Wrong> {
+    fn splice(&mut self, splice: Splice<u32>) -> Result<(), Wrong> {
         let came = self.came(splice.source)?;
         let gone = splice.gone as u64;
         if splice.from as u64 + gone > self.entries {
@@ -91,7 +91,7 @@ impl Kept {
     }
 
     /// A commit changes entries, a file, and the text's numbers.
-    pub fn commit(&mut self, splice: Splice, numbers: Numbers) -> Result<(), Wrong> {
+    pub fn commit(&mut self, splice: Splice<u32>, numbers: Numbers<u32>) -> Result<(), Wrong> {
         self.splice(splice)?;
         if let Also::Store { slot, lines, .. } = numbers.also {
             self.store(slot, lines)?;

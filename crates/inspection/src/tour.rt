@@ -14,7 +14,7 @@ use records::{Numbers, PAGE, Piece, Record, Splice};
 pub struct Tour {
     seen: u64,
     is_torn: bool,
-    generation: u32,
+    generation: Option<u32>,
     due: Option<Due>,
     kept: Kept,
 }
@@ -26,8 +26,8 @@ impl Tour {
         Tour::default()
     }
 
-    /// The generation that the head names, 0 where there is none.
-    pub fn generation(&self) -> u32 {
+    /// The generation that the head names, if there is one.
+    pub fn generation(&self) -> Option<u32> {
         self.generation
     }
 
@@ -95,7 +95,7 @@ impl Tour {
         if generation == 0 || u64::from(generation) > journal::LAST_GENERATION {
             return Err(Wrong::Generation);
         }
-        self.generation = generation;
+        self.generation = Some(generation);
         self.kept.begin(entries)
     }
 
@@ -115,7 +115,7 @@ impl Tour {
         Ok(())
     }
 
-    fn commit(&mut self, splice: Splice, numbers: Numbers) -> Result<(), Wrong> {
+    fn commit(&mut self, splice: Splice<u32>, numbers: Numbers<u32>) -> Result<(), Wrong> {
         if self.due.is_some() {
             return Err(Wrong::Turn);
         }

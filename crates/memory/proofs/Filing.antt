@@ -1,7 +1,7 @@
 -- The table of files. Assumes nothing.
 use Rattle.std.proofs.Common.{◌≡◌, ℕ, zero, suc, ◌+◌, ◌-◌, ◌*◌, ◌%◌, ◌<◌, ◌≤◌, true, false, ◌&&◌, eqb, ltb, leb, List, [], ◌∷◌, ◌++◌, map, length, get_or, take, drop, set, sym, refl, ap, ◌∙◌, append_assoc, add-one, arith}
 use Rattle.std.proofs.lemmas.List.{length-take, length-drop, length-map, length-take-le, set_at, map_more, take_all, drop_all, drop-drop, drop_more, append-nil}
-use Rattle.std.proofs.lemmas.Bool.{lt-ltb, le-ltb, le-leb, lt-leb, ne_eqb, eq-eqb, and_right}
+use Rattle.std.proofs.lemmas.Bool.{lt-ltb, le-ltb, le-leb, lt-leb, and_right}
 use Rattle.plain.specs.Pattern.{pick, added_up, same}
 use Rattle.plain.specs.Device.{lesser}
 use Rattle.std.specs.List.{list_all, zip}

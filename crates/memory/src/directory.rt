@@ -4,13 +4,11 @@ ghost use Rattle.std.specs.Prelude.{◌≡◌, ℕ, ◌+◌, ◌-◌, ◌*◌, �
 ghost use Rattle.commands.specs.Code.{when};
 ghost use Rattle.memory.specs.Sections.{packed_position, entry_position, entry_at, next_at, with_entry, cleared, with_high, with_pending, pending_filled, can_put, can_splice, can_copy, pending_spliced, nothing_spliced, copied_spliced};
 
-use crate::{CELLS, DIRECTORY, TEXT, WORDS};
+use crate::{BYTE, CELLS, DIRECTORY, TEXT, WORDS};
 use lines::Cut;
 
 /// Above a record's number an entry has its tape.
 const TAPE: u64 = 1_048_576;
-/// Above a byte a cell has an entry.
-const BYTE: u64 = 256;
 /// One more than the largest entry.
 const ENTRY: u64 = 2_097_152;
 

@@ -60,13 +60,15 @@ const TABLE: usize = 64;
 
 const FILE: usize = 67;
 
-const NAMES: usize = 64;
+pub const NAMES: usize = 64;
 /// Where the name is that a command has.
 const NAME: usize = 4_416;
 /// Where the cells begin, and how many there are.
 const CELLS: usize = 4_480;
 
 const TEXT: usize = 65_536;
+/// A cell has a byte, and above it the entry of a pending line.
+const BYTE: u64 = 256;
 /// Where the directory begins, and how many numbers it takes.
 const DIRECTORY: usize = 70_016;
 

@@ -8,9 +8,7 @@ ghost use Rattle.memory.specs.Abstract.{text_of, job_lines};
 ghost use Rattle.memory.specs.Bounds.{records_bound, records_small, weight_bound, weight_small};
 
 use crate::{Lines, line_end};
-
-/// What a line weighs besides its bytes.
-const LINE: u64 = 64;
+use commands::LINE_WEIGHT;
 
 /// How many records a line of so many bytes takes.
 pub fn records_of(long: u64) -> u64
@@ -50,7 +48,7 @@ impl Measure for Weight {
     ghost most = { 65 };
 
     fn of(long: u64) -> u64 {
-        LINE + long
+        LINE_WEIGHT + long
     }
 
     ghost bound = { weight_bound };

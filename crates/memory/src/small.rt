@@ -15,10 +15,7 @@ ghost use Rattle.memory.specs.Registers.{part, with_part, TameKept};
 ghost use Rattle.memory.specs.Sections.{low, files_in, name_in, ring_in, ring_count, ring_pushed, with_weight, over, name_kept, file_numbers, with_file, can_file, file_count, file_set};
 
 use crate::{FILE, FILES, Kept, LIMIT, NAME, NAMES, RING, TABLE, WEIGHTS};
-use commands::Slot;
-
-/// What a file weighs by itself.
-const WEIGHT: u64 = 128;
+use commands::{FILE_WEIGHT, Slot};
 
 /// One more weight behind the `n` that there are; a 65th drops the oldest.
 fn push(ring: &mut [u64], n: usize, weight: u64)
@@ -156,7 +153,7 @@ pub fn file_weight(memory: &[u64], files: u64) -> u64
     let mut weight = 0;
     for i in 0..files {
         let file = file_at(memory, i);
-        weight += WEIGHT + file.name + file.size;
+        weight += FILE_WEIGHT + file.name + file.size;
     }
     weight
 }

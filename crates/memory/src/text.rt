@@ -8,12 +8,10 @@ ghost use Rattle.memory.specs.Abstract.{text_of, line_end as ending};
 ghost use Rattle.memory.specs.Registers.{part};
 ghost use Rattle.memory.specs.Sections.{low, cells_in, laid_low, extended, newline as ended};
 
-use crate::{CELLS, Lines, TEXT};
+use crate::{BYTE, CELLS, Lines, TEXT};
 
 /// Between lines stands this byte.
 const NEWLINE: u64 = 10;
-/// A cell has a byte below the entry of a pending line.
-const BYTE: u64 = 256;
 
 /// Bytes over the low bytes of as many cells.
 fn lay_low(cells: &mut [u64], bytes: &[u8])

@@ -2,22 +2,13 @@
 
 use crate::fault::Fault;
 use crate::tape::{Device, RECORD};
-use core_house::Told;
+use core_house::{Event, Told};
 use model::Refusal;
 use std::alloc::{AllocError, Global};
 use std::num::Saturating;
 
 /// More acts than any command has. It is what ends a loop over acts: nothing says here that a command comes to its end.
 pub const MANY: u64 = 100_000_000;
-
-/// What the house is told.
-#[derive(Clone, Copy)]
-pub enum Event {
-    Power = 0,
-    Command = 1,
-    Record = 2,
-    Next = 3,
-}
 
 /// What is told to the house next, with what comes with it.
 #[derive(Clone, Copy)]

@@ -1,5 +1,5 @@
 -- An event has one of four numbers. Assumes nothing.
-use Rattle.std.proofs.Common.{ℕ, ◌≤◌, arith}
+use Rattle.std.proofs.Common.{◌≤◌, arith}
 use Rattle.protocol.specs.declared.Event.{Event}
 use Rattle.protocol.specs.declared.Event.TheVariants.{Power, Command, Record, Next}
 use Rattle.protocol.specs.Events.{kind_number}

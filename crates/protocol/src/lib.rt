@@ -4,6 +4,9 @@
 ghost use Rattle.std.specs.Prelude.{◌≡◌, ◌≤◌, length, take};
 ghost use Rattle.protocol.specs.Events.{Decodes, from_eight as eighth};
 
+/// How many bytes the row at least has in which records and shown rows are handed out.
+pub const ROW: usize = 131_072;
+
 /// What the house is told; at `step` it stands by its number.
 #[derive(Clone, Copy, PartialEq, Eq)]
 pub enum Event {

@@ -9,7 +9,7 @@ ghost use Rattle.commits.specs.Setters.{with_used, with_tapes, with_kept};
 ghost use Rattle.recovery.specs.Wake.{here as HereOf, kept_with, memory_with, replay_record as record_replayed};
 
 use commits::clamp;
-use compaction::begin_other;
+use compaction::{NO_LIMIT, begin_other};
 use journal::{Numbers, Splice};
 use memory::{Position, Registers};
 use protocol::Told;
@@ -17,8 +17,6 @@ use records::{Record, decode_checked};
 
 /// How many entries the directory has at most.
 const ENTRIES: u32 = 524_289;
-/// More entries than there can be.
-const NO_LIMIT: u64 = 1_048_576;
 
 /// Where the record is that was read.
 fn here(registers: &Registers) -> Position

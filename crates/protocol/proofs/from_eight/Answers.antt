@@ -1,4 +1,4 @@
-use Rattle.std.proofs.Common.{◌+◌, ◌*◌, ◌<◌, refl, ap, ◌∙◌, arith, take_all}
+use Rattle.std.proofs.Common.{◌+◌, ◌*◌, ◌<◌, refl, ap, ◌∙◌, arith}
 use Rattle.protocol.specs.Events.{from_eight}
 use Rattle.protocol.proofs.Eight.{eight-more, eight-below, eight_fits}
 use Rattle.protocol.proofs.from_eight.Goals as goal
@@ -26,6 +26,3 @@ loop-byte-preserved c =
       ap (λ n. c.loop-byte.number * 256 + n) c.from.ensures ∙ eight-more c.loop-byte.number c.loop-byte.byte-index c.args.bytes.now c.loop-byte-test.true c.loop-byte.invariant.0,
       eight-below c.loop-byte.number c.loop-byte.byte-index c.from.result b c.loop-byte.invariant.1,
     )
-
-pub returns : goal.returns
-returns c = c.loop-byte.invariant.0 ∙ ap (from_eight 0) (take_all c.loop-byte.byte-index c.args.bytes.now c.loop-byte-test.false)

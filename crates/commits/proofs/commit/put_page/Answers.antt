@@ -1,19 +1,10 @@
-use Rattle.std.proofs.Common.{◌≡◌, ◌≤◌, min, ◌++◌, length, drop, ap, ◌∙◌, arith}
-use Rattle.std.proofs.lemmas.List.{length-take}
+use Rattle.std.proofs.Common.{◌++◌, drop, ◌∙◌}
 use Rattle.journal.specs.Log.{commit}
 use Rattle.memory.specs.Abstract.{name_of}
-use Rattle.memory.specs.Sections.{name_in}
 use Rattle.records.specs.Pages.{page_of}
 use Rattle.records.specs.Values.{low_bytes}
 use Rattle.journal.specs.Values.{news_of}
 use Rattle.commits.proofs.commit.put_page.Goals as goal
-
-pub encode_commit-requires : goal.encode_commit-requires
-encode_commit-requires c =
-    let n = c.args.registers.now.job.name in
-    let few : n ≤ 64 = c.requires.1.1.bounded.name in
-    let l : length c.kept_name-name.result.now ≡ min n (length (name_in c.args.memory.now)) = ap length c.kept_name-name.ensures ∙ length-take n (name_in c.args.memory.now) in
-    (omega arith, omega arith)
 
 pub returns : goal.returns
 unfolding name_of

@@ -1,5 +1,4 @@
-use Rattle.std.proofs.Common.{◌-◌, sym, ap, ◌∙◌, arith}
-use Rattle.std.proofs.lemmas.List.{length-take}
+use Rattle.std.proofs.Common.{◌-◌, sym, ap, ◌∙◌}
 use Rattle.journal.specs.Log.{set_up}
 use Rattle.journal.specs.Small.{news, entry, push, slot}
 use Rattle.records.specs.Pages.{page_of}
@@ -13,9 +12,6 @@ returns-then-index-kept c =
     c.encode_also.ensures
     ∙ ap (λ u. laid (page_of (set_up u)) c.args.out.now)
     (ap (λ w. news 0 0 0 (push w)) c.weight_at-weight.ensures ∙ sym (set_up-push c.args.kept c.args.memory.now c.args.index c.requires.0 c.requires.1.1.0.ring c.if-index-kept.true))
-
-pub encode_also-requires-then-place-kept : goal.encode_also-requires-then-place-kept
-encode_also-requires-then-place-kept c = (c.requires.1.0, rw c.file_name.ensures (simp length-take (omega arith)))
 
 pub returns-then-place-kept : goal.returns-then-place-kept
 returns-then-place-kept c =

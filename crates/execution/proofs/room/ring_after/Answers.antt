@@ -3,9 +3,6 @@ use Rattle.memory.specs.Abstract.{ring_of}
 use Rattle.execution.proofs.Sums.{ring-then, push_light, oldest_less}
 use Rattle.execution.proofs.room.ring_after.Goals as goal
 
-pub overflow_sub-result : goal.overflow_sub-result
-overflow_sub-result c = omega (arith, oldest_less (ring_of c.args.ring c.args.memory.now), c.ring_weight-weight.ensures.total, c.oldest.ensures)
-
 pub returns-in-Push : goal.returns-in-Push
 returns-in-Push c =
     let l = push_light c.args.also c.in-Push.pushed c.in-Push.is c.requires.1.1 in

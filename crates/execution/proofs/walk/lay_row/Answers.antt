@@ -24,15 +24,3 @@ returns-then-numbered c =
       row = row_laid r.walking.bytes (length (c.put_number.new.out ++ drop 8 out) - 8) t bs out c.put_number.new.out c.lay_text.new.row k (omega arith) refl
           c.lay_text.ensures ∙ ap (λ x. x ++ drop (8 + (r.walking.bytes + length bs)) out) row;
     }
-
-pub returns : goal.returns
-returns c =
-    let r = c.args.registers.now in
-    let m = c.args.memory.now in
-    let bs = c.args.piece.bytes.now in
-    let row : text_of r.walking.bytes m ++ bs ≡ row_of c.args.numbered (piece_of c.args.piece) r m =
-    ap (λ b. pick b (eight (suc r.walking.line) ++ (text_of r.walking.bytes m ++ bs)) (text_of r.walking.bytes m ++ bs)) (sym c.if-numbered.false) in
-    record {
-      long = sym (row-long r.walking.bytes m bs c.requires.0 c.requires.1.1.0.walking.bytes) ∙ ap length row;
-      row = c.lay_text-2.ensures ∙ ap (λ t. t ++ drop (r.walking.bytes + length bs) c.args.out.now) row;
-    }

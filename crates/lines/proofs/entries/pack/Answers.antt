@@ -1,4 +1,4 @@
-use Rattle.lines.proofs.Packing.{masked, pack_add, pack_sub}
+use Rattle.lines.proofs.Packing.{masked, pack_add}
 use Rattle.lines.proofs.entries.pack.Goals as goal
 use Rattle.std.proofs.Common.{rules}
 

@@ -1,5 +1,5 @@
 use Rattle.lines.proofs.Packing.{length-slots}
-use Rattle.lines.proofs.Splices.{filled_none, filled_more, filled_all}
+use Rattle.lines.proofs.Splices.{filled_none, filled_more}
 use Rattle.lines.proofs.moves.fill_within.Goals as goal
 use Rattle.std.proofs.Common.{rules}
 

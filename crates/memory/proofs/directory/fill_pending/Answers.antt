@@ -1,5 +1,4 @@
-use Rattle.std.proofs.Common.{refl, ap, ◌∙◌, arith}
-use Rattle.memory.specs.Sections.{pending_filled}
+use Rattle.std.proofs.Common.{refl, arith}
 use Rattle.memory.proofs.Splicing.{fill_none, fill_one}
 use Rattle.memory.proofs.directory.fill_pending.Goals as goal
 
@@ -10,6 +9,3 @@ pub loop-i-preserved : goal.loop-i-preserved
 loop-i-preserved c =
     fill_one c.args.p c.loop-i.i _ c.args.memory.now c.loop-i.memory c.set.new.dir c.requires.0 (omega arith) (omega arith) c.loop-i.invariant refl
     c.set.ensures.entries c.set.ensures.spare
-
-pub returns : goal.returns
-returns c = c.loop-i.invariant ∙ ap (λ n. pending_filled c.args.p n c.args.memory.now) (omega arith)

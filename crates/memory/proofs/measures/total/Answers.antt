@@ -1,7 +1,7 @@
 use Rattle.std.proofs.Common.{◌≡◌, ◌+◌, ◌-◌, ◌*◌, ap, mul-add, arith}
 use Rattle.memory.specs.Abstract.{text_of}
 use Rattle.memory.proofs.Texting.{text-long}
-use Rattle.memory.proofs.Counting.{summed-on, summed-place, summed_all, ends_later}
+use Rattle.memory.proofs.Counting.{summed-on, summed-place}
 use Rattle.memory.proofs.measures.total.Goals as goal
 
 pub line_end-end-requires : goal.line_end-end-requires
@@ -10,10 +10,6 @@ line_end-end-requires g c =
     let t = text_of c.args.len c.args.memory.now in
     let l = text-long c.args.len c.args.memory.now c.requires.0 c.requires.1 in
     (c.requires.0, (summed-place m.size m.most c.args.lines t c.args.len c.loop-more.sum c.loop-more.at c.loop-more.more l c.loop-more-test.true c.loop-more.invariant, c.requires.1))
-
-pub loop-more-smaller : goal.loop-more-smaller
-loop-more-smaller g c =
-    ends_later c.args.len c.loop-more.at c.line_end-end.result c.loop-more.more c.loop-more-test.true c.line_end-end.ensures.behind c.line_end-end.ensures.within
 
 pub loop-more-preserved : goal.loop-more-preserved
 loop-more-preserved g c =

@@ -1,9 +1,5 @@
-use Rattle.std.proofs.Common.{arith}
-use Rattle.memory.proofs.Filing.{laid_more, laid_all}
+use Rattle.memory.proofs.Filing.{laid_more}
 use Rattle.memory.proofs.small.lay.Goals as goal
 
 pub loop-i-preserved : goal.loop-i-preserved
 loop-i-preserved c = laid_more c.args.bytes.now c.args.section.now c.loop-i.section c.loop-i.i c.loop-i-test.true c.requires c.loop-i.invariant
-
-pub returns : goal.returns
-returns c = laid_all c.args.bytes.now c.args.section.now c.loop-i.section c.loop-i.i (omega arith) c.loop-i.invariant

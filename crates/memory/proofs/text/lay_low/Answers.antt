@@ -1,6 +1,4 @@
-use Rattle.std.proofs.Common.{ap, ◌∙◌, arith}
-use Rattle.std.proofs.lemmas.List.{take_all}
-use Rattle.memory.specs.Sections.{laid_low}
+use Rattle.std.proofs.Common.{arith}
 use Rattle.memory.proofs.Texting.{laid_none, laid_one}
 use Rattle.memory.proofs.text.lay_low.Goals as goal
 
@@ -9,6 +7,3 @@ loop-i-init c = laid_none c.args.bytes.now c.args.cells.now
 
 pub loop-i-preserved : goal.loop-i-preserved
 loop-i-preserved c = laid_one c.args.bytes.now c.args.cells.now c.loop-i.cells c.loop-i.i c.loop-i-test.true (omega arith) c.loop-i.invariant
-
-pub returns : goal.returns
-returns c = c.loop-i.invariant ∙ ap (λ t. laid_low t c.args.cells.now) (take_all c.loop-i.i c.args.bytes.now (omega arith))

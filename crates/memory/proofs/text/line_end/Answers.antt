@@ -7,10 +7,6 @@ use Rattle.memory.specs.declared.job.Lines.{Lines}
 use Rattle.memory.specs.declared.job.Lines.TheVariants.{Joined, Nothing}
 use Rattle.memory.proofs.text.line_end.Goals as goal
 
-pub newline-requires : goal.newline-requires
-newline-requires c = omega (arith, c.text_cells.ensures.long)
-
--- where it ends is within the text
 ended : (ls : Lines) (from len r : ℕ) (m : List ℕ) → length m ≡ 262144 → from ≤ len → len ≤ 65536 → r ≡ line_end ls from (text_of len m)
     → (r ≡ line_end ls from (text_of len m)) × ((from ≤ r) × (r ≤ len))
 ended ls from len r m h g k e =

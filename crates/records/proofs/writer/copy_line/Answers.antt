@@ -1,7 +1,6 @@
 use Rattle.std.proofs.Common.{[], ◌∷◌, get_or, ap, ◌∙◌, arith}
 use Rattle.journal.specs.Log.{Piece, piece_in}
 use Rattle.records.specs.Checked.{checked_record_of}
-use Rattle.records.specs.Pages.{closed}
 use Rattle.records.specs.Values.{piece_of}
 use Rattle.records.proofs.Writing.{copy_written}
 use Rattle.records.proofs.writer.copy_line.Goals as goal

@@ -1,5 +1,5 @@
-use Rattle.std.proofs.Common.{◌∙◌, arith, ltb-false, ltb-true}
-use Rattle.typed.proofs.Digits.{no_digit, one_if_none, number_is_amount}
+use Rattle.std.proofs.Common.{arith, ltb-false, ltb-true}
+use Rattle.typed.proofs.Digits.{no_digit, one_if_none}
 use Rattle.typed.proofs.addresses.amount.Goals as goal
 use Rattle.typed.proofs.addresses.amount.Goals.{in_default-via-then-cs-lt1, in_default-via-else-cs-lt1+then-cs-lt48, in_default-via-else-cs-lt1+else-cs-lt48+else-cs-lt58}
 
@@ -11,6 +11,3 @@ returns-in_default c =
       | in_default-via-else-cs-lt1+then-cs-lt48 w ↦ omega (arith, ltb-true)
       | in_default-via-else-cs-lt1+else-cs-lt48+else-cs-lt58 w ↦ omega (arith, ltb-false)
     ]))
-
-pub returns-in-48-to-57 : goal.returns-in-48-to-57
-returns-in-48-to-57 c = c.number.ensures ∙ number_is_amount c.args.cs.now (omega (arith, ltb-false)) (omega (arith, ltb-false)) (omega (arith, ltb-true))

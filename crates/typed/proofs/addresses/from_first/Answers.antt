@@ -1,9 +1,5 @@
-use Rattle.std.proofs.Common.{length, sym, ap, ◌∙◌, arith, rules}
-use Rattle.plain.specs.Pattern.{got}
-use Rattle.plain.specs.Command.{an_address}
-use Rattle.typed.specs.Meaning.{address_of}
-use Rattle.typed.specs.Answer.{from_first}
-use Rattle.typed.proofs.Fronts.{front, carried}
+use Rattle.std.proofs.Common.{length, ap, arith, rules}
+use Rattle.typed.proofs.Fronts.{front}
 use Rattle.typed.proofs.Shorter.{left_address}
 use Rattle.typed.proofs.addresses.from_first.Goals as goal
 
@@ -16,15 +12,3 @@ pub to_second-requires-in-59 : goal.to_second-requires-in-59
 to_second-requires-in-59 c =
     let ds = c.in_ok-first.rest.now in
     omega (arith, left_address _ c.args.cs.now ds c.in_ok-first.ensures, ap length (front ds 59 (search rules) (search rules)))
-
-pub returns-in-44 : goal.returns-in-44
-returns-in-44 c =
-    let ds = c.in_ok-first.rest.now in
-    let a = address_of c.in_ok-first.first in
-    c.to_second.ensures ∙ ap (from_first a) (sym (front ds 44 (search rules) (search rules))) ∙ carried from_first {g = got a ds} {h = an_address c.args.cs.now} c.in_ok-first.ensures
-
-pub returns-in-59 : goal.returns-in-59
-returns-in-59 c =
-    let ds = c.in_ok-first.rest.now in
-    let a = address_of c.in_ok-first.first in
-    c.to_second-in-59.ensures ∙ ap (from_first a) (sym (front ds 59 (search rules) (search rules))) ∙ carried from_first {g = got a ds} {h = an_address c.args.cs.now} c.in_ok-first.ensures

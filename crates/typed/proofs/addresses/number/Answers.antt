@@ -1,21 +1,12 @@
 use Rattle.std.proofs.Common.{arith, ltb-false, ltb-true}
 use Rattle.std.proofs.lemmas.List.{take_rest}
-use Rattle.typed.proofs.Digits.{start, one_more, too_many, all_read, no_digit, at_most}
+use Rattle.typed.proofs.Digits.{one_more, too_many, all_read, no_digit}
 use Rattle.typed.proofs.addresses.number.Goals as goal
 use Rattle.typed.proofs.addresses.number.Goals.{in_default, in_default-2, in_default-3}
-
-pub loop-rest-init : goal.loop-rest-init
-loop-rest-init c = start _
 
 pub returns-then-count-eq-DIGITS : goal.returns-then-count-eq-DIGITS
 returns-then-count-eq-DIGITS c =
     too_many _ _ _ _ c.loop-rest.invariant c.if-count-eq-DIGITS.true (omega (arith, ltb-true, ltb-false)) (omega (arith, ltb-true, ltb-false)) (omega (arith, ltb-true, ltb-false))
-
-pub overflow_mul-value : goal.overflow_mul-value
-overflow_mul-value c = omega (arith, at_most _ _ c.loop-rest.invariant.small c.loop-rest.invariant.few)
-
-pub overflow_add-value : goal.overflow_add-value
-overflow_add-value c = omega (arith, at_most _ _ c.loop-rest.invariant.small c.loop-rest.invariant.few)
 
 pub loop-rest-preserved : goal.loop-rest-preserved
 loop-rest-preserved c =
