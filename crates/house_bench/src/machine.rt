@@ -25,7 +25,7 @@ impl Cost {
 }
 
 /// A command is refused, with this number.
-#[derive(Clone, Copy, PartialEq, Eq)]
+#[derive(Clone, Copy, Debug, PartialEq, Eq)]
 pub struct Refusal(pub u64);
 
 /// How a command ended.

@@ -2,27 +2,33 @@
 
 use crate::tape::Stop;
 use model::NoRefusal;
-use std::alloc::{AllocError, AllocFailed};
+use std::alloc::AllocError;
+use std::io;
 use std::num::ParseIntError;
-use std::{fmt, io};
+use thiserror::Error;
 
 /// Where a difference was found: at which scene, after which stop of it, and after which stop of the wake-up behind that.
-#[derive(Clone, Copy, Default)]
+#[derive(Clone, Copy, Debug, Default)]
 pub struct Trail {
     pub scene: Option<usize>,
     pub stop: Option<Stop>,
     pub again: Option<Stop>,
 }
 
-#[derive(Drop)]
+#[derive(Debug, Drop, Error)]
 pub enum Fault {
+    #[error("usage: player [play DAY | every DAY | random SEED STEPS [ROOM]]")]
     Usage,
     /// A line of a day that means nothing, counted from 1.
+    #[error("line {0} of the day means nothing")]
     Day(u64),
     /// The machine and the plain house differ; the day is printed.
+    #[error("the house differs from the plain house")]
     Differs(Trail),
-    Memory,
-    Outside(io::Error),
+    #[error("there is not enough memory")]
+    Memory(#[from(alloc)] AllocError),
+    #[error(transparent)]
+    Outside(#[from] io::Error),
 }
 
 impl Fault {
@@ -56,32 +62,6 @@ impl Fault {
     }
 }
 
-impl fmt::Display for Fault {
-    fn fmt<W: fmt::Write>(&self, f: &mut fmt::Formatter<W>) -> fmt::Result {
-        match self {
-            Fault::Usage => f.write_str(
-                "usage: player [play DAY | every DAY | random SEED STEPS [ROOM]]",
-            ),
-            Fault::Day(line) => write!(f, "line {line} of the day means nothing"),
-            Fault::Differs(_) => f.write_str("the house differs from the plain house"),
-            Fault::Memory => f.write_str("there is not enough memory"),
-            Fault::Outside(reason) => write!(f, "{reason}"),
-        }
-    }
-}
-
-impl From<AllocError> for Fault {
-    fn from(_error: AllocError) -> Fault {
-        Fault::Memory
-    }
-}
-
-impl<T: Drop> From<AllocFailed<T>> for Fault {
-    fn from(_error: AllocFailed<T>) -> Fault {
-        Fault::Memory
-    }
-}
-
 /// The plain house refuses nothing with such a number.
 impl From<NoRefusal> for Fault {
     fn from(_number: NoRefusal) -> Fault {
@@ -93,11 +73,5 @@ impl From<NoRefusal> for Fault {
 impl From<ParseIntError> for Fault {
     fn from(_error: ParseIntError) -> Fault {
         Fault::Usage
-    }
-}
-
-impl From<io::Error> for Fault {
-    fn from(error: io::Error) -> Fault {
-        Fault::Outside(error)
     }
 }

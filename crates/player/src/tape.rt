@@ -11,14 +11,14 @@ pub const RECORD: usize = 512;
 const HALF: usize = 256;
 
 /// How many of a tape's loose records stay, and whether half of the next does.
-#[derive(Clone, Copy)]
+#[derive(Clone, Copy, Debug)]
 pub struct Stays {
     pub count: u64,
     pub is_half: bool,
 }
 
 /// A stop after so many acts, and what it leaves of each tape.
-#[derive(Clone, Copy)]
+#[derive(Clone, Copy, Debug)]
 pub struct Stop {
     pub acts: u64,
     pub stays: [Stays; 2],
