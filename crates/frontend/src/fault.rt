@@ -2,7 +2,7 @@
 
 use inspection::Damage;
 use std::alloc::AllocError;
-use std::{fmt, io};
+use std::io;
 use thiserror::Error;
 
 /// What is wrong with the arguments.
@@ -38,7 +38,7 @@ pub enum Astray {
 }
 
 /// What is wrong with a file.
-#[derive(Drop, Error)]
+#[derive(Debug, Drop, Error)]
 pub enum Trouble {
     #[error("it can't be opened: {0}")]
     Open(io::Error),
@@ -56,17 +56,10 @@ pub enum Trouble {
     Locked,
     #[error("it is no regular file")]
     Irregular,
-    #[error("it is damaged at record {}: {}", .0.record, .0.wrong)]
+    #[error("it is damaged at {0}")]
     Damaged(Damage),
     #[error("it has more than the {0} records that there is room for")]
     TooLong(u64),
-}
-
-// `Damage` has no `Debug`, so there is none to derive.
-impl fmt::Debug for Trouble {
-    fn fmt<W: fmt::Write>(&self, f: &mut fmt::Formatter<W>) -> fmt::Result {
-        write!(f, "{self}")
-    }
 }
 
 impl Trouble {

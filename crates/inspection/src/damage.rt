@@ -44,7 +44,8 @@ pub enum Wrong {
 }
 
 /// A record by its number, from 0 on, and what is wrong with it.
-#[derive(Clone, Copy)]
+#[derive(Clone, Copy, Debug, Error)]
+#[error("record {record}: {wrong}")]
 pub struct Damage {
     pub record: u64,
     pub wrong: Wrong,
