@@ -16,7 +16,7 @@ use journal::Source;
 use typed::{Deed, Lines, Simple};
 
 /// How many files there can be.
-const FILES: u64 = 64;
+pub const FILES: u64 = 64;
 
 /// How many lines are given, if none of them is too long.
 fn short_lines(lines: Lines<'_>) -> Option<u64>

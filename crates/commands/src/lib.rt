@@ -10,7 +10,7 @@ mod refusal;
 mod weights;
 
 pub use bounds::{Bounds, command_bounds, known};
-pub use decide::plan_command;
+pub use decide::{FILES, plan_command};
 pub use journal::{Source, Splice};
 pub use laws::{
     begins_alike, plans_stand, reads_few, reads_well, smalls_weigh, totals_stand, turns_alike,

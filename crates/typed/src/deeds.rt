@@ -8,7 +8,7 @@ use crate::addresses::{Address, number, or_here, up_to};
 use crate::given::{Lines, given_lines};
 
 /// The longest name of a file, in bytes.
-const LONGEST_NAME: usize = 64;
+pub const LONGEST_NAME: usize = 64;
 
 /// The least that counts a match.
 const FIRST_MATCH: u64 = 1;

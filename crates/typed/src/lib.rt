@@ -10,5 +10,5 @@ mod given;
 
 pub use addresses::{Address, Place, Range, Reach};
 pub use commands::{Command, LONGEST_TYPED, Simple, read};
-pub use deeds::{Deed, Which};
+pub use deeds::{Deed, LONGEST_NAME, Which};
 pub use given::{LONGEST, Lines};
