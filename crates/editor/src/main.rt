@@ -24,6 +24,7 @@ impl House for Plain {
 impl Editor for Plain {
     const NAME: &'static str = "editor";
 
+    // In full, as it is printed: `concat!` puts together literals and no constants.
     const HELP: &'static str = "usage: editor [--room RECORDS] [FILE0 FILE1]
 
 Edits a text that is kept in two files, house.0 and house.1 unless others are

@@ -7,6 +7,7 @@ use crate::fault::{Fault, Misuse};
 use std::alloc::{AllocError, Global};
 use std::env;
 
+/// The rooms of which the promise speaks. They stand here since it is a definition, with no code that has them.
 const LEAST_ROOM: u64 = 1_024;
 
 const MOST_ROOM: u64 = 1_048_576;

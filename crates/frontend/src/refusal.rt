@@ -32,7 +32,7 @@ pub enum Reason {
     NoPattern,
 }
 
-/// No command is refused with another number, and it comes back.
+/// What is refused is told by a number, as the promise has it, so numbers are matched here. No command is refused with another, and it comes back.
 impl TryFrom<Refused> for Reason {
     type Error = Refused;
 

@@ -37,6 +37,7 @@ fn name(row: &[u8]) -> Option<(&[u8], &[u8])>
     rest.split_at_checked(len as usize)
 }
 
+// Three functions, as what is read and what is written behind it differ; only "or the row as it is" is the same.
 fn write_numbered<W: Write>(out: &mut W, row: &[u8]) -> io::Result<()> {
     let Some((number, line)) = number(row) else {
         return out.write_all(row);
@@ -46,10 +47,10 @@ fn write_numbered<W: Write>(out: &mut W, row: &[u8]) -> io::Result<()> {
 }
 
 fn write_count<W: Write>(out: &mut W, row: &[u8]) -> io::Result<()> {
-    match number(row) {
-        Some((number, _)) => write!(out, "{number}"),
-        None => out.write_all(row),
-    }
+    let Some((number, _)) = number(row) else {
+        return out.write_all(row);
+    };
+    write!(out, "{number}")
 }
 
 fn write_file<W: Write>(out: &mut W, row: &[u8]) -> io::Result<()> {

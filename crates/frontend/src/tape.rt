@@ -11,7 +11,7 @@ use std::io;
 use std::io::{Read, Seek, SeekFrom, Write};
 use std::path::Path;
 
-/// How many bytes a record has.
+/// How many bytes a record has, as in `records`, of which an editor needs nothing else.
 pub const RECORD: usize = 512;
 
 /// How many bytes are looked at together, 128 records.
@@ -105,6 +105,7 @@ impl Tape {
         let mut tour = Tour::new();
         let mut pages = Vec::new(heap);
         let mut left = self.bytes;
+        // Counted down by hand: the last batch may be shorter, which `step_by` doesn't say.
         while left > 0 {
             let here = left.min(BATCH);
             left -= here;
@@ -227,6 +228,7 @@ impl Tapes {
 
     /// Tape 0 or 1.
     pub fn get(&mut self, number: u64) -> Result<&mut Tape, Fault> {
+        // Of a slice: that of the array itself gets no proof yet, as its elements own memory.
         let tapes = &mut self.tapes;
         let tapes = &mut tapes[..];
         tapes

@@ -20,7 +20,7 @@ fn deed(text: &[u8]) -> Option<Deed<'_>>
     }
 }
 
-/// Whether lines are typed behind a command line.
+/// Whether lines are typed behind a command line. `reader` asks the same, but takes lines without a prompt and a console of its own.
 fn takes_lines(line: &[u8]) -> bool
     ensures { result ≡ takes_lines (deeds (reads line.now)) }
 {
@@ -44,6 +44,7 @@ pub fn rows(text: &[u8]) -> Rows
 
 /// Lines up to one with only a dot, or to the end of the input, each behind a byte 10.
 fn read_given(console: &mut Console, text: &mut Vec<u8>) -> Result<(), Fault> {
+    // Counted, and not over the lines themselves: a person is asked before each.
     for _ in 0..u64::MAX {
         console.ask_given()?;
         let Some(line) = console.read_line()? else {

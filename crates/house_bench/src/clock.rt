@@ -1,6 +1,7 @@
 //! How long steps take.
 
 use std::fmt;
+use std::num::Saturating;
 use std::time::Duration;
 
 /// What a step did, as far as it is timed apart from others.
@@ -22,17 +23,18 @@ pub enum Kind {
 /// How many steps, how long they took together, the shortest and the longest, in nanoseconds.
 #[derive(Clone, Copy)]
 pub struct Clock {
-    count: u64,
-    sum: u64,
+    count: Saturating<u64>,
+    sum: Saturating<u64>,
     least: u64,
     most: u64,
 }
 
+// Not derived: what is shorter than nothing yet is the longest that there is.
 impl Default for Clock {
     fn default() -> Clock {
         Clock {
-            count: 0,
-            sum: 0,
+            count: Saturating(0),
+            sum: Saturating(0),
             least: u64::MAX,
             most: 0,
         }
@@ -42,8 +44,8 @@ impl Default for Clock {
 impl Clock {
     pub fn note(&mut self, took: Duration) {
         let nanos = u64::try_from(took.as_nanos()).unwrap_or(u64::MAX);
-        self.count = self.count.saturating_add(1);
-        self.sum = self.sum.saturating_add(nanos);
+        self.count += 1;
+        self.sum += nanos;
         self.least = self.least.min(nanos);
         self.most = self.most.max(nanos);
     }
@@ -57,7 +59,7 @@ impl fmt::Display for Clock {
             least,
             most,
         } = *self;
-        let mean = sum.checked_div(count).unwrap_or(0);
+        let mean = sum.0.checked_div(count.0).unwrap_or(0);
         write!(
             f,
             "{count} steps, least {least} ns, mean {mean} ns, most {most} ns"

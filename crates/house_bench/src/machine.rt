@@ -7,20 +7,21 @@ use core_house::{Event, Told};
 use records::Record;
 use std::alloc::Global;
 use std::collections::BTreeMap;
+use std::num::Saturating;
 use std::time::Instant;
 
 /// Records that were read and put on for a command, and rows that were shown.
 #[derive(Clone, Copy, Default)]
 pub struct Cost {
-    pub read: u64,
-    pub put: u64,
-    pub shown: u64,
+    pub read: Saturating<u64>,
+    pub put: Saturating<u64>,
+    pub shown: Saturating<u64>,
 }
 
 impl Cost {
     /// Records in all.
     pub fn records(self) -> u64 {
-        self.read.saturating_add(self.put)
+        (self.read + self.put).0
     }
 }
 
@@ -46,7 +47,7 @@ fn kind_of(told: Told, row: &[u8]) -> Kind {
     }
 }
 
-/// The house's memory, the row in which it hands out bytes, and a clock for each kind of step.
+/// The house's memory, the row in which it hands out bytes, and a clock for each kind of step. Not the editors' machine: each step is timed.
 #[derive(Drop)]
 struct House<'a> {
     rt: &'a HostRuntime,
@@ -175,6 +176,7 @@ impl<'a> Machine<'a> {
     fn tell(&mut self, event: Event, bytes: &[u8]) -> Result<Outcome, Fault> {
         self.cost = Cost::default();
         let mut told = self.house.step(event, bytes)?;
+        // Counted: nothing here says that a command comes to its end.
         for _ in 0..u64::MAX {
             told = match told {
                 Told::Read(which) => self.read(which)?,
@@ -190,7 +192,7 @@ impl<'a> Machine<'a> {
     }
 
     fn read(&mut self, which: u64) -> Result<Told, Fault> {
-        self.cost.read = self.cost.read.saturating_add(1);
+        self.cost.read += 1;
         self.house.take(&self.tapes, which)
     }
 
@@ -201,7 +203,7 @@ impl<'a> Machine<'a> {
     }
 
     fn append(&mut self, tape: u64) -> Result<Told, Fault> {
-        self.cost.put = self.cost.put.saturating_add(1);
+        self.cost.put += 1;
         let record = *self.house.row.first_chunk().ok_or(Fault::Tape)?;
         self.tape(tape)?.append(record)?;
         self.house.proceed()
@@ -218,7 +220,7 @@ impl<'a> Machine<'a> {
     }
 
     fn show(&mut self) -> Result<Told, Fault> {
-        self.cost.shown = self.cost.shown.saturating_add(1);
+        self.cost.shown += 1;
         self.house.proceed()
     }
 }

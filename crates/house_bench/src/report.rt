@@ -35,26 +35,26 @@ pub struct Facts {
 
 /// All commands that are measured, those that end compaction last.
 fn cases(heap: Global, text: Text) -> Result<Vec<Case>, Fault> {
-    let mut cases = Vec::new(heap);
-    for (deed, lines) in LINES {
-        let lines = lines.min(text.most_given());
-        for place in [Place::Front, Place::Middle, Place::End] {
-            cases.push(Case { deed, lines, place })?;
-        }
-    }
-    for deed in [Deed::Files, Deed::Write, Deed::Edit] {
-        cases.push(Case {
+    let most = text.most_given();
+    let on_lines = LINES.into_iter().flat_map(|(deed, lines)| {
+        [Place::Front, Place::Middle, Place::End].map(|place| Case {
             deed,
-            lines: 1,
-            place: Place::All,
-        })?;
-    }
-    Ok(cases)
+            lines: lines.min(most),
+            place,
+        })
+    });
+    let on_all = [Deed::Files, Deed::Write, Deed::Edit].map(|deed| Case {
+        deed,
+        lines: 1,
+        place: Place::All,
+    });
+    Ok(on_lines.chain(on_all).collect(heap)?)
 }
 
 impl Bench<'_> {
     /// Every command, first while no compaction runs, and then while one does.
     pub fn rows(&mut self, facts: &mut Facts) -> Result<Vec<Row>, Fault> {
+        // Not collected, here and below: each step changes the machine and may fail.
         let mut rows = Vec::new(self.heap());
         for (case, rest) in self.at_rest()? {
             self.begin(facts)?;
@@ -143,7 +143,7 @@ impl fmt::Display for Row {
         let Row { case, rest, busy } = *self;
         write!(f, "{case}{}{}", Columns(rest), Columns(busy))?;
         match busy {
-            Ok(cost) if case.is_bounded() => write!(f, " {:>7}", case.allowed(cost.shown)),
+            Ok(cost) if case.is_bounded() => write!(f, " {:>7}", case.allowed(cost.shown.0)),
             _ => Ok(()),
         }
     }
@@ -153,12 +153,12 @@ impl Row {
     /// Whether the command stayed within what is allowed.
     fn is_within(self, outcome: Outcome) -> bool {
         !self.case.is_bounded()
-            || outcome.map_or(true, |cost| cost.records() <= self.case.allowed(cost.shown))
+            || outcome.map_or(true, |cost| cost.records() <= self.case.allowed(cost.shown.0))
     }
 
     /// The records that were read and put on at rest.
     fn records(self) -> Result<(u64, u64), Refusal> {
-        self.rest.map(|cost| (cost.read, cost.put))
+        self.rest.map(|cost| (cost.read.0, cost.put.0))
     }
 }
 

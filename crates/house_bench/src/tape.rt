@@ -4,7 +4,7 @@ use crate::fault::Fault;
 use std::alloc::Global;
 
 /// How many bytes a record has.
-pub const RECORD: usize = 512;
+pub const RECORD: usize = records::PAGE;
 
 /// Records, and how many there is room for.
 #[derive(Drop)]

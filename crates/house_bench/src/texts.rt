@@ -8,6 +8,7 @@ use std::alloc::Global;
 
 /// The most bytes that are typed for lines given.
 const TYPED: u64 = 65_000;
+// The next three are the house's, which hands on none of them but by what it does.
 /// How many files there are.
 const FILES: u64 = 64;
 /// How many stands there are that can be taken back.
@@ -118,6 +119,7 @@ impl<'a> Bench<'a> {
         let typed = self
             .text
             .given(format!(in self.heap(); "1,{lines}c")?, lines)?;
+        // The count only ends it, here and in `settle`: how much room a command takes is not known.
         for _ in 0..self.machine.left() {
             if self.machine.left() < records {
                 break;

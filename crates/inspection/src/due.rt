@@ -3,7 +3,7 @@
 use crate::damage::Wrong;
 use records::Piece;
 
-/// How long a line is at most.
+/// How long a line is at most, as `typed` has it, on which this crate doesn't stand.
 const LONGEST: u16 = 1_024;
 
 /// Whose line a part is of: one that was typed, or an entry's that was carried.

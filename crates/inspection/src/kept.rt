@@ -7,6 +7,7 @@ use arrayvec::ArrayVec;
 use records::{Also, Numbers, Source, Splice};
 use std::mem;
 
+// Of `memory` and `commands`, on which this crate doesn't stand: it looks at files before anything of the machine does.
 /// How many entries the directory has at most.
 const ENTRIES: u64 = 524_288;
 

@@ -6,9 +6,10 @@ use lines::Cut;
 use std::alloc::Global;
 use std::time::Instant;
 
-/// Entries in use, and words that have room for 524,288.
+/// Entries in use.
 const COUNT: usize = 500_000;
 
+/// As many words as the machine's memory has for them, which is room for 524,289.
 const WORDS: usize = 174_763;
 
 /// How often each is done.

@@ -173,6 +173,7 @@ impl House {
     /// What a command of the core comes to, where there is room for what is to be kept then.
     fn obey(&self, room: u64, command: Command<'_>) -> Result<Turn, AllocError> {
         let most = self.most_records(command);
+        // Not by `?`: a refusal is a turn, too.
         let Done { next, rows } = match self.done(command) {
             Ok(done) => done,
             Err(Halt::Refused(why)) => return self.refused(why, most),

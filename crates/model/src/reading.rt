@@ -132,7 +132,7 @@ fn read_address(text: &[u8]) -> Option<(Address, &[u8])> {
     let (base, mut rest) = read_base(text)?;
     let mut on: u64 = 0;
     let mut back: u64 = 0;
-    // Each turn takes a sign off, so there are no more of them than bytes.
+    // Counted, since `while let` asks for a proof that `read_amount` leaves less: each turn takes a sign off, so the bytes are enough.
     for _ in 0..rest.len() {
         let [sign @ (b'+' | b'-'), behind @ ..] = rest else {
             break;

@@ -1,9 +1,10 @@
 //! Why a command is refused.
 
-use std::alloc::{AllocError, AllocFailed};
+use std::alloc::AllocError;
+use thiserror::Error;
 
 /// Why a command is refused.
-#[derive(Clone, Copy, PartialEq, Eq)]
+#[derive(Clone, Copy, Debug, PartialEq, Eq)]
 pub enum Refusal {
     Unreadable,
     Unknown,
@@ -35,26 +36,10 @@ impl TryFrom<u64> for Refusal {
 }
 
 /// Why a command comes to no end of its own.
-#[derive(Drop)]
+#[derive(Debug, Drop, Error)]
 pub enum Halt {
-    Refused(Refusal),
-    Memory(AllocError),
-}
-
-impl From<Refusal> for Halt {
-    fn from(why: Refusal) -> Halt {
-        Halt::Refused(why)
-    }
-}
-
-impl From<AllocError> for Halt {
-    fn from(error: AllocError) -> Halt {
-        Halt::Memory(error)
-    }
-}
-
-impl<T: Drop> From<AllocFailed<T>> for Halt {
-    fn from(error: AllocFailed<T>) -> Halt {
-        Halt::Memory(AllocError::from(error))
-    }
+    #[error("refused")]
+    Refused(#[from] Refusal),
+    #[error("there is not enough memory")]
+    Memory(#[from(alloc)] AllocError),
 }

@@ -29,7 +29,7 @@ pub struct Day {
     pub scenes: Vec<Scene>,
 }
 
-/// The numbers that are written in a text, whatever stands between.
+/// The numbers that are written in a text, whatever stands between. `model` reads its own, as it shares nothing.
 fn numbers(heap: Global, text: &[u8]) -> Result<Vec<u64>, AllocError> {
     text.split(|byte| !byte.is_ascii_digit())
         .filter(|digits| !digits.is_empty())

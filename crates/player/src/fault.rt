@@ -37,28 +37,29 @@ impl Fault {
         Fault::Differs(Trail::default())
     }
 
-    /// A difference is at this scene.
-    pub fn at(mut self, scene: usize) -> Fault {
+    /// The same, of which more is known where it is a difference.
+    fn known<F: FnOnce(&mut Trail)>(mut self, note: F) -> Fault
+        requires { F.IsAlwaysCallable note }
+    {
         if let Fault::Differs(trail) = &mut self {
-            trail.scene = Some(scene);
+            note(trail);
         }
         self
+    }
+
+    /// A difference is at this scene.
+    pub fn at(self, scene: usize) -> Fault {
+        self.known(|trail| trail.scene = Some(scene))
     }
 
     /// A difference comes after this stop.
-    pub fn after(mut self, stop: Stop) -> Fault {
-        if let Fault::Differs(trail) = &mut self {
-            trail.stop = Some(stop);
-        }
-        self
+    pub fn after(self, stop: Stop) -> Fault {
+        self.known(|trail| trail.stop = Some(stop))
     }
 
     /// A difference comes after this stop of a wake-up.
-    pub fn after_again(mut self, stop: Stop) -> Fault {
-        if let Fault::Differs(trail) = &mut self {
-            trail.again = Some(stop);
-        }
-        self
+    pub fn after_again(self, stop: Stop) -> Fault {
+        self.known(|trail| trail.again = Some(stop))
     }
 }
 
@@ -69,7 +70,7 @@ impl From<NoRefusal> for Fault {
     }
 }
 
-/// Numbers are read from the arguments only.
+/// Numbers are read from the arguments only, so one that is none is a wrong use, which keeps no error.
 impl From<ParseIntError> for Fault {
     fn from(_error: ParseIntError) -> Fault {
         Fault::Usage

@@ -70,6 +70,7 @@ impl Guess {
         self.with(kept)
     }
 
+    // Not one with `kept`: which houses stay and what is added for each both differ.
     /// Where a command was stopped: those that would have shown what was shown, before the command and after it.
     pub fn stopped(&self, text: &[u8], rows: &[Vec<u8>]) -> Result<Guess, Fault> {
         let mut either = Vec::new(self.heap);

@@ -42,7 +42,7 @@ impl<'a> Ran<'a> {
     }
 }
 
-/// The house's memory, and the row in which it hands out bytes.
+/// The house's memory, and the row in which it hands out bytes. Not the editors' machine, which acts on files.
 #[derive(Drop)]
 pub struct Machine {
     heap: Global,

@@ -23,6 +23,7 @@ pub struct Counts {
     pub comparisons: Saturating<u64>,
 }
 
+// By hand: no derive adds.
 impl AddAssign for Counts {
     fn add_assign(&mut self, more: Counts) {
         self.commands += more.commands;

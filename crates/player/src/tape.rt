@@ -5,7 +5,7 @@ use std::alloc::{AllocError, Global};
 use std::fmt;
 use std::num::Saturating;
 
-/// How many bytes a record has.
+/// How many bytes a record has. `records` has it too, on which the player doesn't stand.
 pub const RECORD: usize = 512;
 /// How many of them are there where only half of it came.
 const HALF: usize = 256;
@@ -45,44 +45,38 @@ impl fmt::Display for Stop {
 /// Records, the last so many of which might still go.
 #[derive(Clone, Drop)]
 struct Tape {
-    bytes: Vec<u8>,
+    records: Vec<[u8; RECORD]>,
     loose: usize,
 }
 
 impl Tape {
     fn new(heap: Global) -> Tape {
         Tape {
-            bytes: Vec::new(heap),
+            records: Vec::new(heap),
             loose: 0,
         }
     }
 
-    fn records(&self) -> usize {
-        self.bytes.len() / RECORD
-    }
-
     /// A record, or nothing behind the last.
     fn read(&self, record: u64) -> &[u8] {
-        let from = (record as usize).saturating_mul(RECORD);
-        self.bytes
-            .as_slice()
-            .get(from..from.saturating_add(RECORD))
-            .unwrap_or(&[])
+        self.records
+            .get(record as usize)
+            .map_or(&[], |page| page.as_slice())
     }
 
     /// What a stop leaves.
     fn left(&self, stays: Stays) -> Result<Tape, AllocError> {
-        let fast = self.records().saturating_sub(self.loose);
-        let whole = fast.saturating_add(self.loose.min(stays.count as usize));
-        let end = whole.saturating_mul(RECORD);
-        let mut bytes = self.bytes.clone()?;
-        if stays.is_half && end < bytes.len() {
-            bytes.truncate(end.saturating_add(HALF));
-            bytes.resize(end.saturating_add(RECORD), 0)?;
-        } else {
-            bytes.truncate(end);
+        let fast = self.records.len().saturating_sub(self.loose);
+        let mut end = fast.saturating_add(self.loose.min(stays.count as usize));
+        let mut records = self.records.clone()?;
+        if stays.is_half {
+            if let Some(torn) = records.as_mut_slice().get_mut(end) {
+                torn[HALF..].fill(0);
+                end = end.saturating_add(1);
+            }
         }
-        Ok(Tape { bytes, loose: 0 })
+        records.truncate(end);
+        Ok(Tape { records, loose: 0 })
     }
 }
 
@@ -120,12 +114,13 @@ impl Device {
 
     /// Whether a tape has more records than this.
     pub fn is_longer_than(&self, records: usize) -> bool {
-        self.tapes.iter().any(|tape| tape.records() > records)
+        self.tapes.iter().any(|tape| tape.records.len() > records)
     }
 
     /// The tape of that number, which is changed. No device has another than 0 and 1.
     fn changed(&mut self, tape: u64) -> Result<&mut Tape, Fault> {
         self.changes += 1;
+        // Of a slice: that of the array itself gets no proof yet, as its elements own memory.
         let both = &mut self.tapes;
         let tapes = &mut both[..];
         tapes.get_mut(tape as usize).ok_or_else(Fault::difference)
@@ -135,10 +130,11 @@ impl Device {
     pub fn append(&mut self, tape: u64, record: &[u8]) -> Result<(), Fault> {
         let room = self.room;
         let tape = self.changed(tape)?;
-        if record.len() != RECORD || tape.records() as u64 >= room {
+        let record = *record.first_chunk().ok_or_else(Fault::difference)?;
+        if tape.records.len() as u64 >= room {
             return Err(Fault::difference());
         }
-        tape.bytes.extend_from_slice(record)?;
+        tape.records.push(record)?;
         tape.loose = tape.loose.saturating_add(1);
         Ok(())
     }
@@ -154,7 +150,7 @@ impl Device {
         self.turns += 1;
         self.begun += 1;
         let begun = self.changed(tape)?;
-        begun.bytes.clear();
+        begun.records.clear();
         begun.loose = 0;
         Ok(())
     }

@@ -3,31 +3,24 @@ ghost use Rattle.std.specs.Prelude.{◌≡◌, ◌++◌, IfOk};
 ghost use Rattle.reader.specs.Front.{can_read, one_of, slashes, questions, letters, begins, Longest, Why};
 
 use std::alloc::{AllocError, Global};
-use std::fmt;
+use thiserror::Error;
 use typed::{LONGEST_TYPED, read};
 
 /// Some slashes or nothing, question marks, a letter, a blank and a letter, a digit.
 const ENDINGS: [&[u8]; 9] = [b"", b"/", b"//", b"///", b"?", b"??", b"a", b" a", b"1"];
 
 /// Why bytes can't be read.
-#[derive(Clone, Copy)]
+#[derive(Clone, Copy, Debug, Error)]
 pub enum Failure {
     /// A command has at most 65,535 bytes.
+    #[error("it has more than 65535 bytes")]
     TooLong,
     /// A command begins so, but something is missing.
+    #[error("something is missing at its end")]
     EndsEarly,
     /// The first byte, counted from 1, up to which no command goes.
+    #[error("byte {0} doesn't fit")]
     AtByte(usize),
-}
-
-impl fmt::Display for Failure {
-    fn fmt<W: fmt::Write>(&self, f: &mut fmt::Formatter<W>) -> fmt::Result {
-        match self {
-            Failure::TooLong => f.write_str("it has more than 65535 bytes"),
-            Failure::EndsEarly => f.write_str("something is missing at its end"),
-            Failure::AtByte(n) => write!(f, "byte {n} doesn't fit"),
-        }
-    }
 }
 
 /// Whether these bytes with this ending are a command.

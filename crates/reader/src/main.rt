@@ -32,6 +32,7 @@ fn reading(heap: Global, typed: &[u8]) -> io::Result<String> {
 fn main(rt: HostRuntime) -> io::Result<()> {
     let heap = rt.alloc();
     let mut lines = BufReader::new(heap, rt.stdin())?.split(heap, b'\n');
+    // Counted, since a proof has to see an end, and an input has none that is known.
     for _ in 0..u64::MAX {
         let Some(typed) = next_typed(&mut lines)? else {
             break;
