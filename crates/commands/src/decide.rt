@@ -37,14 +37,11 @@ fn line_or_front(count: u64, line: u64) -> Option<u64>
 fn real_lines(count: u64, bounds: Bounds) -> Option<Span>
     ensures { result ≡ when (there count (bounds_as bounds)) (record { after = bounds.first - 1; upto = bounds.last }) }
 {
-    if bounds.first >= 1 && bounds.first <= bounds.last && bounds.last <= count {
-        Some(Span {
-            after: bounds.first - 1,
-            upto: bounds.last,
-        })
-    } else {
-        None
-    }
+    let there = bounds.first >= 1 && bounds.first <= bounds.last && bounds.last <= count;
+    there.then(|| Span {
+        after: bounds.first - 1,
+        upto: bounds.last,
+    })
 }
 
 /// Where one is after lines went: at the next, or the last that is left.
