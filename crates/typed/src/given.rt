@@ -56,6 +56,7 @@ impl<'a> Lines<'a> {
     pub fn all_short(self) -> bool
         ensures { result ≡ short_all (lines_in self.entry) }
     {
+        // No `split` and `all`: what `split` of a slice promises doesn't say which bytes the parts have.
         let mut lines = self;
         while let Some((line, rest)) = lines.split_first() {
             if line.len() > LONGEST {
