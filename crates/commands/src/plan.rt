@@ -73,8 +73,8 @@ pub struct Plan {
     pub rows: Rows,
 }
 
-/// How many lines the text has, which is the current one, and how many lines all files have. `SizesFit` is no invariant of it: what lines a command speaks
-/// of is promised for any sizes.
+/// How many lines the text has, which is the current one, and how many lines all files have. `SizesFit` is no invariant of it:
+/// `command_bounds` takes any count and any offset, and would ask more of its callers.
 #[derive(Clone, Copy)]
 pub struct Sizes {
     pub count: u64,
