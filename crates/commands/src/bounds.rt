@@ -155,12 +155,21 @@ fn known_place(place: Place<'_>) -> bool
 fn known_deed(deed: Deed<'_>) -> bool
     ensures { result ≡ core_deed (deed_of deed.entry) }
 {
-    match deed {
-        Deed::Append(_) | Deed::Insert(_) | Deed::Change(_) | Deed::Delete | Deed::Join => true,
-        Deed::Print | Deed::Number | Deed::LineNumber | Deed::GoTo => true,
-        Deed::Write(_) | Deed::Edit(_) | Deed::Files => true,
-        _ => false,
-    }
+    matches!(
+        deed,
+        Deed::Append(_)
+            | Deed::Insert(_)
+            | Deed::Change(_)
+            | Deed::Delete
+            | Deed::Join
+            | Deed::Print
+            | Deed::Number
+            | Deed::LineNumber
+            | Deed::GoTo
+            | Deed::Write(_)
+            | Deed::Edit(_)
+            | Deed::Files
+    )
 }
 
 /// Whether a command is of the core.

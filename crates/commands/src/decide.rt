@@ -1,5 +1,5 @@
-//! What is decided about a command, from small numbers alone: why it is refused, or the plan of what is done. That few lines are given is asked where they
-//! are counted; `typed::Lines` is as it was typed and has no such bound.
+//! What is decided about a command, from small numbers alone: why it is refused, or the plan of what is done. That few lines are given is asked of
+//! the caller where they are counted: `typed::Lines` can be made of any bytes, and an invariant of it would ask more of all who make one.
 ghost use Rattle.std.specs.Prelude.{◌≡◌, ℕ, ◌-◌, ◌<◌, length, nat_le, nat_lt};
 ghost use Rattle.plain.specs.Pattern.{or};
 ghost use Rattle.plain.specs.House.{short_all};
@@ -37,14 +37,11 @@ fn line_or_front(count: u64, line: u64) -> Option<u64>
 fn real_lines(count: u64, bounds: Bounds) -> Option<Span>
     ensures { result ≡ when (there count (bounds_as bounds)) (record { after = bounds.first - 1; upto = bounds.last }) }
 {
-    if bounds.first >= 1 && bounds.first <= bounds.last && bounds.last <= count {
-        Some(Span {
-            after: bounds.first - 1,
-            upto: bounds.last,
-        })
-    } else {
-        None
-    }
+    let there = bounds.first >= 1 && bounds.first <= bounds.last && bounds.last <= count;
+    there.then(|| Span {
+        after: bounds.first - 1,
+        upto: bounds.last,
+    })
 }
 
 /// Where one is after lines went: at the next, or the last that is left.

@@ -73,8 +73,8 @@ pub struct Plan {
     pub rows: Rows,
 }
 
-/// How many lines the text has, which is the current one, and how many lines all files have. `SizesFit` is no invariant of it: what lines a command speaks
-/// of is promised for any sizes.
+/// How many lines the text has, which is the current one, and how many lines all files have. `SizesFit` is no invariant of it:
+/// `command_bounds` takes any count and any offset, and would ask more of its callers.
 #[derive(Clone, Copy)]
 pub struct Sizes {
     pub count: u64,
@@ -93,12 +93,6 @@ pub struct Slot {
     /// What its lines weigh.
     pub size: u64,
 }
-
-const NO_SPLICE: Splice<u64> = Splice {
-    from: 0,
-    gone: 0,
-    source: Source::Nothing,
-};
 
 /// Lines of the text go, others come in their place.
 pub(crate) fn replace(
@@ -139,11 +133,9 @@ pub(crate) fn show(sizes: Sizes, walk: Walk, span: Span) -> Plan
         walk,
         span,
         update: Update::Current,
-        splice: NO_SPLICE,
-        came: 0,
         count: sizes.count,
         current: span.upto,
-        rows: Rows::Nothing,
+        ..Plan::default()
     }
 }
 
@@ -152,14 +144,10 @@ pub(crate) fn say(sizes: Sizes, rows: Rows) -> Plan
     ensures { plan_as result ≡ say_plan (sizes_as sizes) (rows_as rows) }
 {
     Plan {
-        walk: Walk::Skip,
-        span: Span { after: 0, upto: 0 },
-        update: Update::Nothing,
-        splice: NO_SPLICE,
-        came: 0,
         count: sizes.count,
         current: sizes.current,
         rows,
+        ..Plan::default()
     }
 }
 

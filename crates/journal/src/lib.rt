@@ -41,7 +41,7 @@ fn follows(newer: u32, older: u32) -> bool
 }
 
 /// Which tape counts, by the generations that the heads of both name, 0 where there is no head: of two the older one, since the newer may not have everything
-/// yet; none where there is no head at all.
+/// yet; none where there is no head at all. No `Option` of a generation, since the definition of the generation of a tape has 0 for no head.
 pub fn counting(first: u32, second: u32) -> Option<Tape>
     ensures { which_of result ≡ choose first second }
 {

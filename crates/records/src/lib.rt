@@ -23,7 +23,7 @@ pub const SHARE: usize = 503;
 /// Where the byte is that is 1 in every page that was written whole.
 const SEAL: usize = 511;
 
-/// The kinds of records, as byte 0 has them.
+/// The kinds of records, as byte 0 has them. No enum: they are bytes of a page as it lies on the tape, and `decode` alone tells them apart, for a `Record`.
 const HEAD: u8 = 1;
 
 const LINE: u8 = 2;
@@ -57,7 +57,8 @@ pub enum Record<'a> {
         numbers: Numbers<u32>,
         name: &'a [u8],
     },
-    /// No record, or one that was not written whole.
+    /// No record, or one that was not written whole. A case, and no `Option` of a record: the definition of a record has it, since replay is told over all that
+    /// a tape holds, and ends there.
     Broken,
 }
 

@@ -7,7 +7,7 @@ ghost use Rattle.journal.specs.Log.{commit as a_commit};
 
 use crate::{Also, Numbers, PAGE, Piece, Record, SEAL, Source, Splice};
 
-/// How many bytes of a file's name a page has room for.
+/// How many bytes of a file's name a page has room for. A number of its own: this crate doesn't stand above `typed`, whose `LONGEST_NAME` is the same.
 const NAME: u32 = 64;
 
 /// A page that was written whole.
@@ -60,6 +60,7 @@ impl<'a> Page<'a> {
         }
     }
 
+    /// The kind is a number of the page as it lies on the tape, and a case from here on.
     fn source(self) -> Source<u32>
         ensures { source_of result ≡ source_by (four_at self.entry.bytes.now 9) (four_at self.entry.bytes.now 13) (four_at self.entry.bytes.now 17) }
     {
@@ -90,6 +91,7 @@ impl<'a> Page<'a> {
         &self.bytes[53..53 + long]
     }
 
+    /// The same of what else is said.
     fn also(self) -> Also<u32>
         ensures { also_of result (name_in_page self.entry.bytes.now) ≡ also_in_page self.entry.bytes.now }
     {

@@ -69,7 +69,8 @@ pub fn decode_checked(page: &[u8]) -> Record<'_>
     }
 }
 
-/// The share of a line that a page holds, and which part it is: nothing, as part 0, where it holds no line.
+/// The share of a line that a page holds, and which part it is: nothing, as part 0, where it holds no line. No `Option`: the
+/// definition has that piece for every other record, and `copy_line` makes a copy of it.
 pub fn piece_read(page: &[u8]) -> Piece<'_>
     ensures part { result.part ≡ part_in (checked_record_of page.now) }
     ensures piece { piece_of result ≡ piece_in (checked_record_of page.now) }

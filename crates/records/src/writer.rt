@@ -1,4 +1,5 @@
-//! Writing a page, over the front of a lent row, which has to be as long: no array, since the row is longer and is lent as a slice.
+//! Writing a page, over the front of a lent row, which has to be as long: no array, since the row is longer and is lent as a slice, and no struct that holds the
+//! row, since one call writes a whole page, so that it would be made anew for each call and do nothing else.
 ghost use Rattle.std.specs.Prelude.{◌≡◌, ℕ, ◌+◌, ◌-◌, ◌*◌, ◌%◌, ◌<◌, ◌≤◌, List, [], ◌∷◌, ◌++◌, length, drop, map, slice_set};
 ghost use Rattle.journal.specs.Log.{commit as a_commit, copy as a_copy, head as a_head, line as a_line, piece as a_piece, piece_in};
 ghost use Rattle.records.specs.Lines.{records_for, share};
@@ -137,6 +138,7 @@ pub fn copy_line(read: &[u8], out: &mut [u8], index: u32, part: u8) -> u16
     piece.long
 }
 
+/// The numbers that a page has for a source, read back by `Page::source` alone.
 fn source_numbers(source: Source<u32>) -> (u32, u32, u32)
     ensures { result ≡ (source_kind (source_of source), source_from (source_of source), source_to (source_of source)) }
 {
@@ -147,6 +149,7 @@ fn source_numbers(source: Source<u32>) -> (u32, u32, u32)
     }
 }
 
+/// The numbers that a page has for what else is said, read back by `Page::also` alone.
 fn also_numbers(also: Also<u32>) -> (u32, u32, u32, u32)
     ensures { (name : List ℕ) → result ≡ (also_kind (also_of also name), also_number (also_of also name), (entry_in (also_of also name)).lines, (entry_in (also_of also name)).size) }
 {

@@ -1,9 +1,12 @@
 -- Which match is replaced, and the names of files. Assumes nothing.
 use Rattle.std.proofs.Common.{◌≡◌, ℕ, zero, suc, ◌+◌, ◌<◌, ◌≤◌, Bool, true, false, ◌&&◌, eqb, ltb, leb, List, [], ◌∷◌, length, get_or, sym, refl, ap, ◌∙◌, ⊎_elim, arith}
+use Rattle.std.specs.Bool.{then_some}
 use Rattle.std.proofs.lemmas.Bool.{cases_Bool, and_parts, and_from, le-leb, leb-true, ltb-true, ne_eqb, eq-eqb}
 use Rattle.plain.specs.Pattern.{pick, any, same, Got, none, got, none_of}
 use Rattle.plain.specs.Command.{digit, starts_digit, number_part, after_digits, digits_long, which_of, a_file}
-use Rattle.typed.specs.Answer.{a_number}
+use Rattle.typed.specs.declared.deeds.Which.TheVariants.{Nth}
+use Rattle.typed.specs.Meaning.{which_number}
+use Rattle.typed.specs.Answer.{whole, a_number}
 use Rattle.typed.proofs.Fronts.{took, refused}
 use Rattle.typed.proofs.Digits.{after_more, after_none, long-more, long_none, worth_none}
 
@@ -50,7 +53,7 @@ module _ (cs : List ℕ) (n : ℕ) (rest : List ℕ) (given : got n rest ≡ a_n
   is_rest : rest ≡ after_digits cs
   is_rest = (took (ltb 9 (digits_long cs)) n (number_part 0 cs) rest (after_digits cs) given).2
 
-  pub chosen : 1 ≤ n → length rest ≡ 0 → length cs ≤ 3 → got n [] ≡ one cs
+  chosen : 1 ≤ n → length rest ≡ 0 → length cs ≤ 3 → got n [] ≡ one cs
   chosen some end few =
       let all = ap length is_rest in
       let none_left : length (after_digits cs) ≡ 0 = omega arith in
@@ -60,7 +63,7 @@ module _ (cs : List ℕ) (n : ℕ) (rest : List ℕ) (given : got n rest ≡ a_n
       in
       (λ i. got (is_number i) []) ∙ ap (λ b. pick b (got (number_part 0 cs) []) none) (sym e)
 
-  pub not_chosen : (1 ≤ n → length rest ≡ 0 → length cs ≤ 3 → ⊥) → none ≡ one cs
+  not_chosen : (1 ≤ n → length rest ≡ 0 → length cs ≤ 3 → ⊥) → none ≡ one cs
   not_chosen never =
       ⊎_elim
       (λ e.
@@ -73,6 +76,13 @@ module _ (cs : List ℕ) (n : ℕ) (rest : List ℕ) (given : got n rest ≡ a_n
       absurd (never (omega (arith, is_number)) (omega (arith, ap length is_rest)) (omega (arith, counted cs))))
       (λ e. ap (λ b. pick b (got (number_part 0 cs) []) none) (sym e))
       (cases_Bool (counts cs))
+
+-- one from 1 to 999 at the end, by whether all of that holds
+pub one_by : (cs : List ℕ) (n : ℕ) (rest : List ℕ) → got n rest ≡ a_number cs → (b : Bool) →
+    (b ≡ true → (1 ≤ n) × (length rest ≡ 0) × (length cs ≤ 3)) → (b ≡ false → 1 ≤ n → length rest ≡ 0 → length cs ≤ 3 → ⊥) →
+    whole which_number (then_some b (Nth n)) ≡ one cs
+one_by cs n rest given true all never = let all = all refl in chosen cs n rest given all.0 all.1 all.2
+one_by cs n rest given false all never = not_chosen cs n rest given (never refl)
 
 pub too_long : (cs : List ℕ) → none ≡ a_number cs → none ≡ one cs
 too_long cs given =

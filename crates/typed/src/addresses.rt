@@ -46,7 +46,8 @@ pub enum Reach {
     All,
 }
 
-/// A range: two addresses by value, and which of them were typed; one that wasn't is the current line. No `Option`, as each kind of range takes both.
+/// A range: two addresses by value, and which of them were typed. No `Option` of an address: the definition of a range has both always, the current line for
+/// one that wasn't typed, and which were is `reach`.
 #[derive(Clone, Copy)]
 pub struct Range<'a> {
     pub reach: Reach,
@@ -68,6 +69,7 @@ const HERE: Address<'static> = Address {
 pub(crate) fn number(cs: &[u8]) -> Option<(u64, &[u8])>
     ensures { answer itself result ≡ a_number cs.now }
 {
+    // Counted as they are read: it stops at the tenth digit, so no value is too large for 64 bits.
     let mut value: u64 = 0;
     let mut count: usize = 0;
     let mut rest = cs;

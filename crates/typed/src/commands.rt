@@ -50,16 +50,12 @@ fn global<'a>(range: Range<'a>, matching: bool, cs: &'a [u8]) -> Option<Command<
     };
     let (pattern, rest) = up_to(b'/', rest)?;
     let simple = read_simple(rest)?;
-    if may_repeat(&simple.deed) {
-        Some(Command::Global {
-            range,
-            matching,
-            pattern,
-            simple,
-        })
-    } else {
-        None
-    }
+    may_repeat(&simple.deed).then_some(Command::Global {
+        range,
+        matching,
+        pattern,
+        simple,
+    })
 }
 
 /// A command, to the end.

@@ -70,7 +70,7 @@ fn file_name(cs: &[u8]) -> Option<&[u8]>
 fn alone<'a>(deed: Deed<'a>, cs: &[u8]) -> Option<Deed<'a>>
     ensures { whole deed_of result ≡ ended (deed_of deed.entry) cs.now }
 {
-    if cs.is_empty() { Some(deed) } else { None }
+    cs.is_empty().then_some(deed)
 }
 
 /// Which match is replaced: the first, all, or one from 1 to 999.
@@ -82,11 +82,8 @@ fn which_match(cs: &[u8]) -> Option<Which>
         [b'g'] => Some(Which::All),
         _ => {
             let (n, rest) = number(cs)?;
-            if n >= FIRST_MATCH && rest.is_empty() && cs.len() <= 3 {
-                Some(Which::Nth(n))
-            } else {
-                None
-            }
+            let fits = n >= FIRST_MATCH && rest.is_empty() && cs.len() <= 3;
+            fits.then_some(Which::Nth(n))
         }
     }
 }

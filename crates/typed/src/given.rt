@@ -56,14 +56,7 @@ impl<'a> Lines<'a> {
     pub fn all_short(self) -> bool
         ensures { result ≡ short_all (lines_in self.entry) }
     {
-        let mut lines = self;
-        while let Some((line, rest)) = lines.split_first() {
-            if line.len() > LONGEST {
-                return false;
-            }
-            lines = rest;
-        }
-        true
+        self.text.is_none_or(|text| all_short(text))
     }
 }
 
@@ -87,6 +80,14 @@ fn lines_of(text: &[u8]) -> usize
     ensures { result ≡ length (lines_of [] text.now) }
 {
     1 + newlines(text)
+}
+
+/// Whether no line of a text is longer than a text takes.
+fn all_short(text: &[u8]) -> bool
+    ensures { result ≡ short_all (lines_of [] text.now) }
+{
+    text.split(|byte| *byte == b'\n')
+        .all(|line| line.len() <= LONGEST)
 }
 
 /// What stands behind the letter of a command that takes lines.

@@ -6,14 +6,6 @@ pub returns-in-Append : goal.returns-in-Append
 unfolding core_deed
 returns-in-Append c = search rules
 
-pub returns-in-Print : goal.returns-in-Print
-unfolding core_deed
-returns-in-Print c = search rules
-
-pub returns-in-Write : goal.returns-in-Write
-unfolding core_deed
-returns-in-Write c = search rules
-
 pub returns-in_default : goal.returns-in_default
 unfolding core_deed
 returns-in_default c = search rules
