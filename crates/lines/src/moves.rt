@@ -94,6 +94,16 @@ pub fn fill(dir: &mut [u64], p: usize, new: &[u64]) -> Result<(), OutOfRange>
     }
 }
 
+/// Moves what stands behind the entries that are cut, so that `k` places are there in place of these, which have room.
+fn open_gap(dir: &mut [u64], cut: Cut, k: usize)
+    requires { Splices (length (slots dir.old)) cut.count cut.from cut.gone k }
+    ensures entries { slots dir.new ≡ copied (cut.from + cut.gone) (cut.count - (cut.from + cut.gone)) (cut.from + k) (slots dir.old) }
+    ensures spare { spares dir.new ≡ spares dir.old }
+{
+    let behind = cut.from + cut.gone;
+    copy_within(dir, behind, cut.count - behind, cut.from + k);
+}
+
 /// Moves what stands behind the entries that are cut, so that `k` places are there in place of these, and says how many entries are in use
 /// then. What the places hold is what stood there. None where it can't be done, and then nothing is changed.
 pub fn make_room(dir: &mut [u64], cut: Cut, k: usize) -> Option<usize>
@@ -104,13 +114,8 @@ pub fn make_room(dir: &mut [u64], cut: Cut, k: usize) -> Option<usize>
     if !cut.takes(len(dir), k) {
         return None;
     }
-    let Cut {
-        count,
-        from: p,
-        gone: q,
-    } = cut;
-    copy_within(dir, p + q, count - (p + q), p + k);
-    Some(count - q + k)
+    open_gap(dir, cut, k);
+    Some(cut.count - cut.gone + k)
 }
 
 /// In place of the entries that are cut: the low 21 bits of each of `new`. Says how many entries are in use then. None where that can't be
@@ -123,14 +128,9 @@ pub fn splice(dir: &mut [u64], cut: Cut, new: &[u64]) -> Option<usize>
     if !cut.takes(len(dir), new.len()) {
         return None;
     }
-    let Cut {
-        count,
-        from: p,
-        gone: q,
-    } = cut;
-    copy_within(dir, p + q, count - (p + q), p + new.len());
-    fill_within(dir, p, new);
-    Some(count - q + new.len())
+    open_gap(dir, cut, new.len());
+    fill_within(dir, cut.from, new);
+    Some(cut.count - cut.gone + new.len())
 }
 
 /// In place of the entries that are cut: the `n` entries from `x` on, which lie before those.
@@ -139,13 +139,8 @@ fn duplicate_before(dir: &mut [u64], cut: Cut, x: usize, n: usize)
     ensures entries { slots dir.new ≡ edited cut.count cut.from cut.gone (take n (drop x (slots dir.old))) (slots dir.old) }
     ensures spare { spares dir.new ≡ spares dir.old }
 {
-    let Cut {
-        count,
-        from: p,
-        gone: q,
-    } = cut;
-    copy_within(dir, p + q, count - (p + q), p + n);
-    copy_within(dir, x, n, p);
+    open_gap(dir, cut, n);
+    copy_within(dir, x, n, cut.from);
 }
 
 /// The same where they lie behind those, so that they move with what stands there.
@@ -154,13 +149,8 @@ fn duplicate_behind(dir: &mut [u64], cut: Cut, x: usize, n: usize)
     ensures entries { slots dir.new ≡ edited cut.count cut.from cut.gone (take n (drop x (slots dir.old))) (slots dir.old) }
     ensures spare { spares dir.new ≡ spares dir.old }
 {
-    let Cut {
-        count,
-        from: p,
-        gone: q,
-    } = cut;
-    copy_within(dir, p + q, count - (p + q), p + n);
-    copy_within(dir, x - q + n, n, p);
+    open_gap(dir, cut, n);
+    copy_within(dir, x - cut.gone + n, n, cut.from);
 }
 
 /// In place of the entries that are cut: a copy of the entries `x..y`, which lie before those or behind them. Says how many entries are in

@@ -6,8 +6,5 @@ use Rattle.std.proofs.Common.{rules}
 pub returns : goal.returns
 returns c = search (rules, before_is)
 
-pub copy_within-requires-2 : goal.copy_within-requires-2
-copy_within-requires-2 c = search (rules, length-slots)
-
-pub overflow_add-p-3 : goal.overflow_add-p-3
-overflow_add-p-3 c = search (rules, length-slots)
+pub copy_within-requires : goal.copy_within-requires
+copy_within-requires c = search (rules, length-slots)
