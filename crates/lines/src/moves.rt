@@ -133,26 +133,6 @@ pub fn splice(dir: &mut [u64], cut: Cut, new: &[u64]) -> Option<usize>
     Some(cut.count - cut.gone + new.len())
 }
 
-/// In place of the entries that are cut: the `n` entries from `x` on, which lie before those.
-fn duplicate_before(dir: &mut [u64], cut: Cut, x: usize, n: usize)
-    requires { (Splices (length (slots dir.old)) cut.count cut.from cut.gone n) × (x + n ≤ cut.from) }
-    ensures entries { slots dir.new ≡ edited cut.count cut.from cut.gone (take n (drop x (slots dir.old))) (slots dir.old) }
-    ensures spare { spares dir.new ≡ spares dir.old }
-{
-    open_gap(dir, cut, n);
-    copy_within(dir, x, n, cut.from);
-}
-
-/// The same where they lie behind those, so that they move with what stands there.
-fn duplicate_behind(dir: &mut [u64], cut: Cut, x: usize, n: usize)
-    requires { (Splices (length (slots dir.old)) cut.count cut.from cut.gone n) × ((cut.from + cut.gone ≤ x) × (x + n ≤ cut.count)) }
-    ensures entries { slots dir.new ≡ edited cut.count cut.from cut.gone (take n (drop x (slots dir.old))) (slots dir.old) }
-    ensures spare { spares dir.new ≡ spares dir.old }
-{
-    open_gap(dir, cut, n);
-    copy_within(dir, x - cut.gone + n, n, cut.from);
-}
-
 /// In place of the entries that are cut: a copy of the entries `x..y`, which lie before those or behind them. Says how many entries are in
 /// use then. None where that can't be done, and then nothing is changed.
 pub fn duplicate(dir: &mut [u64], cut: Cut, x: usize, y: usize) -> Option<usize>
@@ -163,14 +143,18 @@ pub fn duplicate(dir: &mut [u64], cut: Cut, x: usize, y: usize) -> Option<usize>
     if x > y || !cut.takes(len(dir), y - x) {
         return None;
     }
-    if y <= cut.from {
-        duplicate_before(dir, cut, x, y - x);
+    let n = y - x;
+    // Those behind move with what stands there.
+    let from = if y <= cut.from {
+        x
     } else if cut.from + cut.gone <= x && y <= cut.count {
-        duplicate_behind(dir, cut, x, y - x);
+        x - cut.gone + n
     } else {
         return None;
-    }
-    Some(cut.count - cut.gone + (y - x))
+    };
+    open_gap(dir, cut, n);
+    copy_within(dir, from, n, cut.from);
+    Some(cut.count - cut.gone + n)
 }
 
 /// Exchanges the entries `i` and `j`.
