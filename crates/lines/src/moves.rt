@@ -11,7 +11,8 @@ use crate::entries::{get, len, set};
 #[derive(Clone, Copy, PartialEq, Eq)]
 pub struct OutOfRange;
 
-/// Copies `n` entries to places further to the front, the first one first.
+/// Copies `n` entries to places further to the front, the first one first. No one function with `copy_up`: where the places overlap the order
+/// must be this one here and the other one there, so it would be told the order as a flag.
 fn copy_down(dir: &mut [u64], from: usize, n: usize, to: usize)
     requires { (to ≤ from) × (from + n ≤ length (slots dir.old)) }
     ensures entries { slots dir.new ≡ copied from n to (slots dir.old) }
