@@ -131,6 +131,9 @@ pub fn file_name(memory: &[u64], i: u64) -> &[u64]
     &numbers[3..3 + long]
 }
 
+// The two sums are loops: `(0..files).map(..).sum()` was tried, and its proof didn't close. A trait of what a file adds, for one loop in place of
+// them, would with its two laws be longer than both.
+
 /// Where the lines of all files end in the directory, and those of the text begin.
 pub fn file_lines(memory: &[u64], files: u64) -> u64
     requires { (length memory.now ≡ 262144) × (files ≤ 64) }

@@ -2,7 +2,7 @@ use Rattle.std.proofs.Common.{◌≡◌, Option, None, Some, ap, ◌∙◌, arit
 use Rattle.std.specs.Option.{UnwrapsOrElse, unwrap_or}
 use Rattle.memory.specs.declared.phase.Phase.{Phase}
 use Rattle.memory.specs.declared.phase.Phase.TheVariants.{Idle}
-use Rattle.memory.specs.Numbers.{phases, phase_of}
+use Rattle.memory.specs.Numbers.{phase_of}
 use Rattle.memory.proofs.phase.PhaseFromU64.from.Goals as goal
 
 unwrapped : (o : Option Phase) (r : Phase) → UnwrapsOrElse o (λ x. x ≡ Idle) r → r ≡ unwrap_or o Idle
