@@ -34,7 +34,7 @@ pub fn len(dir: &[u64]) -> usize
     dir.len() * PER_WORD
 }
 
-/// The entry `i`, or 0 past the end.
+/// The entry `i`, or 0 past the end: total, as its definition `slice_index` is, so that no caller needs a bound.
 pub fn get(dir: &[u64], i: usize) -> u64
     ensures { result ≡ slice_index (slots dir.now) i }
 {

@@ -14,10 +14,7 @@ pub fn next_on(dir: &[u64], from: usize, to: usize, tape: u64) -> usize
     ensures { result ≡ next_on tape from to (slots dir.now) }
 {
     let end = to.min(len(dir)).max(from);
-    for i in from..end {
-        if get(dir, i) >> TAPE_BIT == tape {
-            return i;
-        }
-    }
-    end
+    (from..end)
+        .find(|i| get(dir, *i) >> TAPE_BIT == tape)
+        .unwrap_or(end)
 }

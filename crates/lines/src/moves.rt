@@ -11,7 +11,8 @@ use crate::entries::{get, len, set};
 #[derive(Clone, Copy, PartialEq, Eq)]
 pub struct OutOfRange;
 
-/// Copies `n` entries to places further to the front, the first one first.
+/// Copies `n` entries to places further to the front, the first one first. No one function with `copy_up`: where the places overlap the order
+/// must be this one here and the other one there, so it would be told the order as a flag.
 fn copy_down(dir: &mut [u64], from: usize, n: usize, to: usize)
     requires { (to ≤ from) × (from + n ≤ length (slots dir.old)) }
     ensures entries { slots dir.new ≡ copied from n to (slots dir.old) }
@@ -94,6 +95,16 @@ pub fn fill(dir: &mut [u64], p: usize, new: &[u64]) -> Result<(), OutOfRange>
     }
 }
 
+/// Moves what stands behind the entries that are cut, so that `k` places are there in place of these, which have room.
+fn open_gap(dir: &mut [u64], cut: Cut, k: usize)
+    requires { Splices (length (slots dir.old)) cut.count cut.from cut.gone k }
+    ensures entries { slots dir.new ≡ copied (cut.from + cut.gone) (cut.count - (cut.from + cut.gone)) (cut.from + k) (slots dir.old) }
+    ensures spare { spares dir.new ≡ spares dir.old }
+{
+    let behind = cut.from + cut.gone;
+    copy_within(dir, behind, cut.count - behind, cut.from + k);
+}
+
 /// Moves what stands behind the entries that are cut, so that `k` places are there in place of these, and says how many entries are in use
 /// then. What the places hold is what stood there. None where it can't be done, and then nothing is changed.
 pub fn make_room(dir: &mut [u64], cut: Cut, k: usize) -> Option<usize>
@@ -104,13 +115,8 @@ pub fn make_room(dir: &mut [u64], cut: Cut, k: usize) -> Option<usize>
     if !cut.takes(len(dir), k) {
         return None;
     }
-    let Cut {
-        count,
-        from: p,
-        gone: q,
-    } = cut;
-    copy_within(dir, p + q, count - (p + q), p + k);
-    Some(count - q + k)
+    open_gap(dir, cut, k);
+    Some(cut.count - cut.gone + k)
 }
 
 /// In place of the entries that are cut: the low 21 bits of each of `new`. Says how many entries are in use then. None where that can't be
@@ -123,44 +129,9 @@ pub fn splice(dir: &mut [u64], cut: Cut, new: &[u64]) -> Option<usize>
     if !cut.takes(len(dir), new.len()) {
         return None;
     }
-    let Cut {
-        count,
-        from: p,
-        gone: q,
-    } = cut;
-    copy_within(dir, p + q, count - (p + q), p + new.len());
-    fill_within(dir, p, new);
-    Some(count - q + new.len())
-}
-
-/// In place of the entries that are cut: the `n` entries from `x` on, which lie before those.
-fn duplicate_before(dir: &mut [u64], cut: Cut, x: usize, n: usize)
-    requires { (Splices (length (slots dir.old)) cut.count cut.from cut.gone n) × (x + n ≤ cut.from) }
-    ensures entries { slots dir.new ≡ edited cut.count cut.from cut.gone (take n (drop x (slots dir.old))) (slots dir.old) }
-    ensures spare { spares dir.new ≡ spares dir.old }
-{
-    let Cut {
-        count,
-        from: p,
-        gone: q,
-    } = cut;
-    copy_within(dir, p + q, count - (p + q), p + n);
-    copy_within(dir, x, n, p);
-}
-
-/// The same where they lie behind those, so that they move with what stands there.
-fn duplicate_behind(dir: &mut [u64], cut: Cut, x: usize, n: usize)
-    requires { (Splices (length (slots dir.old)) cut.count cut.from cut.gone n) × ((cut.from + cut.gone ≤ x) × (x + n ≤ cut.count)) }
-    ensures entries { slots dir.new ≡ edited cut.count cut.from cut.gone (take n (drop x (slots dir.old))) (slots dir.old) }
-    ensures spare { spares dir.new ≡ spares dir.old }
-{
-    let Cut {
-        count,
-        from: p,
-        gone: q,
-    } = cut;
-    copy_within(dir, p + q, count - (p + q), p + n);
-    copy_within(dir, x - q + n, n, p);
+    open_gap(dir, cut, new.len());
+    fill_within(dir, cut.from, new);
+    Some(cut.count - cut.gone + new.len())
 }
 
 /// In place of the entries that are cut: a copy of the entries `x..y`, which lie before those or behind them. Says how many entries are in
@@ -173,14 +144,18 @@ pub fn duplicate(dir: &mut [u64], cut: Cut, x: usize, y: usize) -> Option<usize>
     if x > y || !cut.takes(len(dir), y - x) {
         return None;
     }
-    if y <= cut.from {
-        duplicate_before(dir, cut, x, y - x);
+    let n = y - x;
+    // Those behind move with what stands there.
+    let from = if y <= cut.from {
+        x
     } else if cut.from + cut.gone <= x && y <= cut.count {
-        duplicate_behind(dir, cut, x, y - x);
+        x - cut.gone + n
     } else {
         return None;
-    }
-    Some(cut.count - cut.gone + (y - x))
+    };
+    open_gap(dir, cut, n);
+    copy_within(dir, from, n, cut.from);
+    Some(cut.count - cut.gone + n)
 }
 
 /// Exchanges the entries `i` and `j`.

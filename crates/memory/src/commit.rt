@@ -7,7 +7,8 @@ ghost use Rattle.memory.specs.Commit.{can_by, came_by, spliced_by, can_note, cou
 ghost use Rattle.memory.specs.Sections.{can_file as filed};
 
 use crate::{
-    Kept, NAMES, TABLE, push_weight, set_file, splice_copied, splice_nothing, splice_pending,
+    Kept, NAMES, NewFile, TABLE, push_weight, set_file, splice_copied, splice_nothing,
+    splice_pending,
 };
 use journal::{Also, Numbers, Source, Splice};
 use lines::Cut;
@@ -69,14 +70,12 @@ fn note(memory: &mut [u64], counts: Counts, also: Also<u32>, name: &[u8]) -> Cou
             lines,
             weight,
         } => {
-            let files = set_file(
-                memory,
-                counts.files,
-                slot as u64,
-                lines as u64,
-                weight as u64,
+            let file = NewFile {
                 name,
-            );
+                lines: lines as u64,
+                size: weight as u64,
+            };
+            let files = set_file(memory, counts.files, slot as u64, file);
             Counts {
                 ring: counts.ring,
                 files: files.unwrap_or(counts.files),

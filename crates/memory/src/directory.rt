@@ -19,6 +19,7 @@ pub struct Position {
     pub at: u64,
 }
 
+/// No `From` either way: a name says that the number is an entry, and `entry` drops what has no room in one, where `From` would lose nothing.
 impl Position {
     fn from_entry(entry: u64) -> Position
         ensures { result ≡ entry_position entry }
@@ -37,7 +38,8 @@ impl Position {
     }
 }
 
-/// Entry `i` of `entries`. Where there are fewer, a hole: record 0 of tape 0, which is never a line.
+/// Entry `i` of `entries`. Where there are fewer, a hole: record 0 of tape 0, which is never a line. Total, as its definition is, so that no caller
+/// needs a bound.
 pub fn entry(memory: &[u64], entries: u64, i: u64) -> Position
     requires { length memory.now ≡ 262144 }
     ensures { result ≡ entry_at entries i memory.now }
@@ -107,7 +109,8 @@ pub fn push_pending(memory: &mut [u64], j: u64, position: Position) -> Option<u6
     Some(j + 1)
 }
 
-/// The entries from `p` on are those of the first `k` pending lines.
+/// The entries from `p` on are those of the first `k` pending lines. An index: both lie in the one memory, and split into two slices it would be
+/// wanted all the same, since an entry is no item of a slice.
 fn fill_pending(memory: &mut [u64], p: usize, k: usize)
     requires { (length memory.old ≡ 262144) × ((k ≤ 65536) × (p + k ≤ 524289)) }
     ensures { memory.new ≡ pending_filled p k memory.old }

@@ -3,7 +3,7 @@
 ghost use Rattle.std.specs.Prelude.{◌≡◌, ◌≤◌, length};
 ghost use Rattle.memory.specs.Registers.{kept_in as loaded, kept_numbers as numbers};
 
-use crate::LIMIT;
+use crate::{ENTRIES, LIMIT, TABLE, TEXT, WEIGHTS};
 
 #[derive(Clone, Copy, Default)]
 pub struct Kept {
@@ -29,13 +29,13 @@ impl Kept {
         ensures { result ≡ loaded section.now }
     {
         Kept {
-            entries: section[0] % 524_290,
-            pending: section[1] % 65_537,
+            entries: section[0] % (ENTRIES as u64 + 1),
+            pending: section[1] % (TEXT as u64 + 1),
             count: section[2] % LIMIT,
             current: section[3] % LIMIT,
             weight: section[4] % LIMIT,
-            ring: section[5] % 65,
-            files: section[6] % 65,
+            ring: section[5] % (WEIGHTS as u64 + 1),
+            files: section[6] % (TABLE as u64 + 1),
         }
     }
 

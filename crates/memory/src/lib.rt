@@ -39,15 +39,14 @@ pub use measures::{lines_records, lines_weight, records_of};
 pub use phase::Phase;
 pub use registers::Registers;
 pub use small::{
-    File, file_at, file_lines, file_name, file_weight, find_file, keep_name, kept_name, oldest,
-    push_weight, ring_weight, set_file, total_weight, weight_at,
+    File, NewFile, file_at, file_lines, file_name, file_weight, find_file, keep_name, kept_name,
+    oldest, push_weight, ring_weight, set_file, total_weight, weight_at,
 };
 pub use tapes::Tapes;
 pub use text::{copy_low, copy_out, extend, keep, line_end, text_cells};
 pub use walking::{Putting, Walking};
 
-/// How many numbers the memory has. It is lent as a slice, as `step` gets it, so its length stands in each contract: memory never grows, and no type of
-/// this crate owns it.
+/// How many numbers the memory has. Its length stands in each contract, as no type carries it: `step` is lent a slice by its caller, and this crate owns none.
 pub const MEMORY: usize = 262_144;
 /// Where the ring begins, and how many weights it has room for.
 const RING: usize = 64;
@@ -56,23 +55,25 @@ const WEIGHTS: usize = 64;
 /// Where the table of files begins, how many it has room for, how many numbers each takes, and how many bytes a name has at most.
 const FILES: usize = 128;
 
-const TABLE: usize = 64;
+const TABLE: usize = commands::FILES as usize;
 
 const FILE: usize = 67;
 
-pub const NAMES: usize = 64;
+pub const NAMES: usize = typed::LONGEST_NAME;
 /// Where the name is that a command has.
 const NAME: usize = 4_416;
 /// Where the cells begin, and how many there are.
 const CELLS: usize = 4_480;
 
-const TEXT: usize = 65_536;
+pub const TEXT: usize = 65_536;
 /// A cell has a byte, and above it the entry of a pending line.
 const BYTE: u64 = 256;
 /// Where the directory begins, and how many numbers it takes.
 const DIRECTORY: usize = 70_016;
 
 const WORDS: usize = 174_763;
+/// How many entries it has room for.
+pub const ENTRIES: usize = 3 * WORDS;
 
 /// A register holds 32 bits, so that no sum of two overflows, whatever the memory held.
-const LIMIT: u64 = 4_294_967_296;
+pub const LIMIT: u64 = 4_294_967_296;

@@ -73,7 +73,8 @@ impl Measure for Records {
     ghost small = { records_small };
 }
 
-/// What the lines come to that are put on, of a text of `len` bytes.
+/// What the lines come to that are put on, of a text of `len` bytes. `lines` and `len` are two of the fields of a `Job`: a struct of both would be
+/// made anew for each call.
 fn total<M: Measure>(memory: &[u64], lines: Lines, len: u64) -> u64
     requires { (length memory.now ≡ 262144) × (len ≤ 65536) }
     ensures total { result ≡ added_up (λ l. M.size (length l)) (job_lines lines (text_of len memory.now)) }
@@ -82,6 +83,7 @@ fn total<M: Measure>(memory: &[u64], lines: Lines, len: u64) -> u64
     let mut sum = 0;
     let mut at = 0;
     let mut more = lines.some();
+    // By hand: the next line begins where `line_end` says, and std tells little of a closure that remembers it, as its calls change it.
     while more {
         let end = line_end(memory, lines, at, len);
         sum += M::of(end - at);

@@ -48,7 +48,7 @@ pub enum Phase {
     FileShown = 19,
 }
 
-/// The phases by their numbers.
+/// The phases by their numbers. They stand here once more, since there is no cast from a number to an enum.
 const PHASES: [Phase; 20] = [
     Phase::Idle,
     Phase::WakeFirst,
@@ -77,11 +77,7 @@ impl From<u64> for Phase {
     ghost from_gives = { λ n phase. phase ≡ decoded n };
 
     fn from(n: u64) -> Self {
-        if n < PHASES.len() as u64 {
-            PHASES[n as usize]
-        } else {
-            Phase::Idle
-        }
+        PHASES.get(n as usize).copied().unwrap_or_default()
     }
 }
 

@@ -1,5 +1,5 @@
-//! A plan in fifteen numbers, since the fixed memory holds nothing else: each enum is the number of its variant, and the numbers in it stand behind. No
-//! `From`, as neither the enums nor the numbers are of this crate.
+//! A plan in fifteen numbers, since the fixed memory holds nothing else: each enum is the number of its variant, and the numbers in it stand behind.
+//! Functions, since `From` is not to be had: neither the enums nor the numbers are of this crate (the orphan rule).
 
 ghost use Rattle.std.specs.Prelude.{◌≡◌, ◌≤◌, length};
 ghost use Rattle.memory.specs.Numbers.{walk_of as walked, walk_number as step, update_of as updated, update_kind, update_place, rows_of as rowed, rows_kind, rows_value, source_by as sourced, source_kind, source_from, source_to};
@@ -69,6 +69,7 @@ fn rows_numbers(rows: Rows) -> (u64, u64)
     }
 }
 
+/// A page's numbers of a source (`records`) are another layout, which may change apart from this one: there, others than these are a copy.
 fn source_of(kind: u64, from: u64, to: u64) -> Source<u64>
     ensures { result ≡ sourced kind from to }
 {

@@ -5,8 +5,8 @@ ghost use Rattle.memory.specs.Registers.{loaded, stored};
 
 use crate::{Carrying, Job, Kept, Phase, Putting, Tapes, Walking};
 
-/// What is asked of them (`Tame` of those that were loaded, `Loose` of those that a step has begun to change) is no invariant of the type: a step may
-/// change registers that are tame only so far that they are loose, and no further.
+/// No type carries what is asked of them (`Tame` of those that were loaded, `Loose` of those that a step has begun to change): an invariant would have to
+/// hold between any two changes of a step, and the tame become loose there.
 #[derive(Clone, Copy, Default)]
 pub struct Registers {
     pub phase: Phase,

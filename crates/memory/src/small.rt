@@ -131,6 +131,9 @@ pub fn file_name(memory: &[u64], i: u64) -> &[u64]
     &numbers[3..3 + long]
 }
 
+// The two sums are loops: `(0..files).map(..).sum()` was tried, and its proof didn't close. A trait of what a file adds, for one loop in place of
+// them, would with its two laws be longer than both.
+
 /// Where the lines of all files end in the directory, and those of the text begin.
 pub fn file_lines(memory: &[u64], files: u64) -> u64
     requires { (length memory.now ≡ 262144) × (files ≤ 64) }
@@ -184,7 +187,7 @@ fn same_bytes(cells: &[u64], name: &[u8]) -> bool
         .all(|(cell, byte)| *cell % 256 == u64::from(*byte))
 }
 
-/// Where the file of a name is in the table, or would come.
+/// Where the file of a name is in the table, or would come. A loop by hand, since it tells the lines of all files before it too, which `find` doesn't.
 pub fn find_file(memory: &[u64], files: u64, name: &[u8]) -> Slot
     requires { (length memory.now ≡ 262144) × (files ≤ 64) }
     ensures { slot_as result ≡ look_up name.now 0 0 (files_of files memory.now) }
@@ -223,22 +226,35 @@ fn lay(section: &mut [u64], bytes: &[u8])
     }
 }
 
+/// A file that is put in the table.
+#[derive(Clone, Copy)]
+pub struct NewFile<'a> {
+    pub name: &'a [u8],
+    pub lines: u64,
+    /// What its lines weigh.
+    pub size: u64,
+}
+
 /// The numbers of a file.
-fn put_file(numbers: &mut [u64], lines: u64, size: u64, name: &[u8])
-    requires { (length numbers.old ≡ 67) × (length name.now ≤ 64) }
-    ensures { numbers.new ≡ file_numbers name.now lines size numbers.old }
+fn put_file(numbers: &mut [u64], file: NewFile<'_>)
+    requires { (length numbers.old ≡ 67) × (length file.name.now ≤ 64) }
+    ensures { numbers.new ≡ file_numbers file.entry.name.now file.entry.lines file.entry.size numbers.old }
 {
-    numbers[0..3].copy_from_slice(&[name.len() as u64, lines % LIMIT, size % LIMIT]);
-    lay(&mut numbers[3..67], name);
+    numbers[0..3].copy_from_slice(&[
+        file.name.len() as u64,
+        file.lines % LIMIT,
+        file.size % LIMIT,
+    ]);
+    lay(&mut numbers[3..67], file.name);
 }
 
 /// The same in place `i` of the table.
-fn put_file_at(table: &mut [u64], i: usize, lines: u64, size: u64, name: &[u8])
-    requires { (length table.old ≡ 4288) × ((i < 64) × (length name.now ≤ 64)) }
-    ensures { table.new ≡ with_part (67 * i) 67 table.old (file_numbers name.now lines size (part (67 * i) 67 table.old)) }
+fn put_file_at(table: &mut [u64], i: usize, file: NewFile<'_>)
+    requires { (length table.old ≡ 4288) × ((i < 64) × (length file.name.now ≤ 64)) }
+    ensures { table.new ≡ with_part (67 * i) 67 table.old (file_numbers file.entry.name.now file.entry.lines file.entry.size (part (67 * i) 67 table.old)) }
 {
     let at = FILE * i;
-    put_file(&mut table[at..at + FILE], lines, size, name);
+    put_file(&mut table[at..at + FILE], file);
 }
 
 /// The place of file `i` of `files`; past the last it is a new one.
@@ -258,31 +274,22 @@ fn files_with(files: u64, i: u64) -> u64
 
 /// File `i` of `files` is this one; past the last it is a new one. Says how many there are then, or None where there are too many or the name
 /// is too long, and then nothing is changed.
-pub fn set_file(
-    memory: &mut [u64],
-    files: u64,
-    i: u64,
-    lines: u64,
-    size: u64,
-    name: &[u8],
-) -> Option<u64>
+pub fn set_file(memory: &mut [u64], files: u64, i: u64, file: NewFile<'_>) -> Option<u64>
     requires { length memory.old ≡ 262144 }
-    ensures count { result ≡ when (can_file files i (length name.now)) (file_count files i) }
-    ensures memory { memory.new ≡ file_set files i name.now lines size memory.old }
+    ensures count { result ≡ when (can_file files i (length file.entry.name.now)) (file_count files i) }
+    ensures memory { memory.new ≡ file_set files i file.entry.name.now file.entry.lines file.entry.size memory.old }
 {
     let place = place_of(files, i);
     if place >= TABLE as u64 {
         return None;
     }
-    if name.len() > NAMES {
+    if file.name.len() > NAMES {
         return None;
     }
     put_file_at(
         &mut memory[FILES..FILES + FILE * TABLE],
         place as usize,
-        lines,
-        size,
-        name,
+        file,
     );
     Some(files_with(files, i))
 }

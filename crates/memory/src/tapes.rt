@@ -9,7 +9,7 @@ use crate::LIMIT;
 pub struct Tapes {
     /// How many records a tape has room for.
     pub room: u64,
-    /// The tape that counts, 0 or 1.
+    /// The tape that counts, 0 or 1: a number, as in the memory and in each entry of the directory.
     pub active: u64,
     pub generation: u64,
     /// How many records are on it.

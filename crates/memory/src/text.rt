@@ -64,7 +64,7 @@ pub fn text_cells(memory: &[u64], from: u64, n: u64) -> &[u64]
     &cells[from as usize..(from + n) as usize]
 }
 
-/// The low bytes of cells over as many bytes.
+/// The low bytes of cells over as many bytes: `records::lay`, told in the words of this crate.
 pub fn copy_low(cells: &[u64], out: &mut [u8])
     requires { length out.old ≡ length cells.now }
     ensures { out.new ≡ map low cells.now }

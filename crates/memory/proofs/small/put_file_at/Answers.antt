@@ -9,4 +9,4 @@ returns c =
     let t = c.args.table.now in
     let k : 67 * i + 67 - 67 * i ≡ 67 = omega arith in
     ap (λ n. with_part (67 * i) n t c.put_file.new.numbers) k
-    ∙ ap (with_part (67 * i) 67 t) (c.put_file.ensures ∙ ap (λ n. file_numbers c.args.name.now c.args.lines c.args.size (take n (drop (67 * i) t))) k)
+    ∙ ap (with_part (67 * i) 67 t) (c.put_file.ensures ∙ ap (λ n. file_numbers c.args.file.name.now c.args.file.lines c.args.file.size (take n (drop (67 * i) t))) k)

@@ -9,21 +9,21 @@ pub returns-then-place : goal.returns-then-place
 unfolding file_set
 returns-then-place c =
     let p : c.place_of-place.result ≡ lesser c.args.i c.args.files = c.place_of-place.ensures in
-    simp (can_not-place c.args.files c.args.i (length c.args.name.now) (omega (arith, p, c.if-place.true))) record { count = refl; memory = refl }
+    simp (can_not-place c.args.files c.args.i (length c.args.file.name.now) (omega (arith, p, c.if-place.true))) record { count = refl; memory = refl }
 
-pub returns-then-name-gt-NAMES : goal.returns-then-name-gt-NAMES
+pub returns-then-file-gt-NAMES : goal.returns-then-file-gt-NAMES
 unfolding file_set
-returns-then-name-gt-NAMES c =
-    simp (can_not-name c.args.files c.args.i (length c.args.name.now) c.if-name-gt-NAMES.true) record { count = refl; memory = refl }
+returns-then-file-gt-NAMES c =
+    simp (can_not-name c.args.files c.args.i (length c.args.file.name.now) c.if-file-gt-NAMES.true) record { count = refl; memory = refl }
 
 pub returns : goal.returns
 unfolding file_set with_file
 returns c =
     let p : c.place_of-place.result ≡ lesser c.args.i c.args.files = c.place_of-place.ensures in
     let m = c.args.memory.now in
-    let bs = c.args.name.now in
-    simp (can_both c.args.files c.args.i (length c.args.name.now) (omega (arith, p, c.if-place.false)) c.if-name-gt-NAMES.false) record {
+    let bs = c.args.file.name.now in
+    simp (can_both c.args.files c.args.i (length c.args.file.name.now) (omega (arith, p, c.if-place.false)) c.if-file-gt-NAMES.false) record {
       count = ap Some c.files_with.ensures;
       memory = ap (with_files m) (c.put_file_at.ensures
-          ∙ ap (λ i. with_part (67 * i) 67 (files_in m) (file_numbers bs c.args.lines c.args.size (part (67 * i) 67 (files_in m)))) p);
+          ∙ ap (λ i. with_part (67 * i) 67 (files_in m) (file_numbers bs c.args.file.lines c.args.file.size (part (67 * i) 67 (files_in m)))) p);
     }

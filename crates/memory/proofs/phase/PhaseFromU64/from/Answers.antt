@@ -1,13 +1,16 @@
-use Rattle.std.proofs.Common.{sym, arith}
-use Rattle.std.proofs.lemmas.List.{get_or_default, get_or_past}
+use Rattle.std.proofs.Common.{◌≡◌, Option, None, Some, ap, ◌∙◌, arith}
+use Rattle.std.specs.Option.{UnwrapsOrElse, unwrap_or}
+use Rattle.memory.specs.declared.phase.Phase.{Phase}
 use Rattle.memory.specs.declared.phase.Phase.TheVariants.{Idle}
-use Rattle.memory.specs.Numbers.{phases, phase_of}
+use Rattle.memory.specs.Numbers.{phase_of}
 use Rattle.memory.proofs.phase.PhaseFromU64.from.Goals as goal
 
-pub returns-then-n : goal.returns-then-n
-unfolding phase_of
-returns-then-n c = get_or_default phases c.args.n _ Idle (omega arith)
+unwrapped : (o : Option Phase) (r : Phase) → UnwrapsOrElse o (λ x. x ≡ Idle) r → r ≡ unwrap_or o Idle
+unwrapped None r u = u
+unwrapped (Some x) r u = u
 
-pub returns-else-n : goal.returns-else-n
+pub returns : goal.returns
 unfolding phase_of
-returns-else-n c = sym (get_or_past phases c.args.n Idle (omega arith))
+returns c =
+    unwrapped c.copied.result c.unwrap_or_default.result c.unwrap_or_default.ensures
+    ∙ ap (λ o. unwrap_or o Idle) c.copied.ensures ∙ c.get.ensures.lookup.4 (omega arith) Idle
