@@ -42,7 +42,8 @@ fn put_page(registers: &Registers, memory: &[u64], numbers: Numbers<u32>, out: &
     records::encode_commit(out, splice, numbers, name);
 }
 
-/// Applies the commit in memory, with a row for the name of a file, and says what is kept then.
+/// Applies the commit in memory, with a row for the name of a file, and says what is kept then. Of the registers it takes two parts,
+/// as does `apply`: the bounds of those are asked for, and not `Loose`, which is of all.
 fn apply_named(
     memory: &mut [u64],
     kept: Kept,

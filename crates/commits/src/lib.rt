@@ -12,7 +12,7 @@ mod rows;
 mod targets;
 
 pub use journal::{Also, Numbers};
-pub use news::{clamp, news_of, numbers, splice};
+pub use news::{LIMIT, clamp, news_of, numbers, splice};
 pub use protocol::Told;
 pub use putting::{after_commit, after_fast, after_line, put_next, start_pass};
 pub use rows::{LOST, NUMBER, end_done, finish, put_number, refuse, show_files};

@@ -15,7 +15,7 @@ use journal::{Also, Numbers, Source, Splice};
 use memory::{Kept, Registers};
 
 /// A page has 32 bits for each number.
-const LIMIT: u64 = 4_294_967_296;
+pub const LIMIT: u64 = 4_294_967_296;
 
 /// What copies of lines weigh: of those of a file, or of those walked over.
 fn copied_weight(update: Update, went: u64, size: u64) -> u64
@@ -85,7 +85,7 @@ pub fn news_of(registers: &Registers, memory: &[u64]) -> Numbers<u64>
     }
 }
 
-/// The low 32 bits.
+/// The low 32 bits. No `From`, as it cuts; nor a `TryFrom`, which would refuse, as this and what stands on it below never do.
 fn low(n: u64) -> u32
     ensures { result ≡ cut n }
 {
@@ -146,7 +146,7 @@ pub fn splice(splice: Splice<u64>) -> Splice<u32>
     }
 }
 
-/// What of the source is in a directory of so many entries.
+/// What of the source is in a directory of so many entries. Their bound is asked for as one of a number, here and below: `Loose` has it of whole registers.
 fn within(source: Source<u64>, entries: u64) -> Source<u32>
     requires { entries ≤ 524289 }
     ensures { source_of result ≡ inside entries (source_of source) }

@@ -34,8 +34,7 @@ pub fn start_pass(
     registers.putting = Putting {
         second,
         more: registers.job.lines.some(),
-        at: 0,
-        part: 0,
+        ..Putting::default()
     };
     put_next(registers, memory, out)
 }

@@ -1,6 +1,6 @@
 //! The tape that a record is put on: the one that counts, or on the second pass the other one.
 
-ghost use Rattle.std.specs.Prelude.{◌≡◌};
+ghost use Rattle.std.specs.Prelude.{◌≡◌, ◌<◌};
 ghost use Rattle.commits.specs.Bounds.{Loose};
 ghost use Rattle.commits.specs.Putting.{target as tape_put_on, target_used, target_longer, last_target};
 ghost use Rattle.commits.specs.Setters.{passive as other_tape};
@@ -9,7 +9,7 @@ use memory::{Registers, Tapes};
 
 /// The tape that doesn't count.
 pub fn passive(registers: &Registers) -> u64
-    requires { Loose registers.now }
+    requires { registers.now.tapes.active < 2 }
     ensures { result ≡ other_tape registers.now }
 {
     1 - registers.tapes.active

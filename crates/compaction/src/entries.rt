@@ -6,7 +6,7 @@ ghost use Rattle.commits.specs.Acts.{Says};
 ghost use Rattle.commits.specs.Bounds.{Loose};
 ghost use Rattle.compaction.specs.Carry.{go_on as GoingOn, carry_entry as entry_carried, carry as carried_on, carry_piece as piece_carried, after_carry as carried_after};
 
-use commits::{end_done, start_pass};
+use commits::{end_done, passive, start_pass};
 use memory::{Carrying, Phase, Position, Registers, records_of};
 use protocol::Told;
 use records::copy_line;
@@ -30,7 +30,7 @@ fn carry_entry(registers: &mut Registers, memory: &[u64], i: u64) -> Told
 {
     if i >= registers.kept.entries {
         registers.phase = Phase::CompactFast;
-        return Told::Fasten(1 - registers.tapes.active);
+        return Told::Fasten(passive(registers));
     }
     let position = memory::entry(memory, registers.kept.entries, i);
     registers.phase = Phase::CarryRead;
@@ -39,10 +39,9 @@ fn carry_entry(registers: &mut Registers, memory: &[u64], i: u64) -> Told
         part: 0,
         long: 0,
         start: registers.tapes.other,
-        quota: registers.carrying.quota,
-        waking: registers.carrying.waking,
+        ..registers.carrying
     };
-    Told::Read(2 * position.at + position.tape)
+    Told::read(position.tape, position.at)
 }
 
 /// The next entry that lies on the tape that counts is carried, while there may be more.
@@ -73,7 +72,7 @@ pub fn carry_piece(registers: &mut Registers, read: &[u8], out: &mut [u8]) -> To
     registers.phase = Phase::CarryPut;
     registers.carrying.long = long as u64;
     registers.tapes.other += 1;
-    Told::Append(1 - registers.tapes.active)
+    Told::Append(passive(registers))
 }
 
 /// It is on: the entry's next record is read, or the entry lies there now and the next one is carried.
@@ -87,10 +86,10 @@ pub fn after_carry(registers: &mut Registers, memory: &mut [u64], out: &mut [u8]
         let position = memory::entry(memory, registers.kept.entries, index);
         registers.phase = Phase::CarryRead;
         registers.carrying.part = part;
-        return Told::Read(2 * (position.at + part) + position.tape);
+        return Told::read(position.tape, position.at + part);
     }
     let position = Position {
-        tape: 1 - registers.tapes.active,
+        tape: passive(registers),
         at: registers.carrying.start,
     };
     memory::set_entry(memory, index, position);

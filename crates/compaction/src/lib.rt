@@ -5,4 +5,4 @@ mod entries;
 mod tapes;
 
 pub use entries::{after_carry, carry, carry_piece};
-pub use tapes::{NO_LIMIT, after_switch, begin_old, begin_other, put_head, set_up_next};
+pub use tapes::{NO_LIMIT, after_switch, begin_old, begin_other, one_tape, put_head, set_up_next};

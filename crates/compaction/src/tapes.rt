@@ -1,6 +1,6 @@
 //! The other tape begins, and counts in the end.
 
-ghost use Rattle.std.specs.Prelude.{◌≡◌, ℕ, ◌+◌, ◌<◌, ◌≤◌, List, length, slice_index_or};
+ghost use Rattle.std.specs.Prelude.{◌≡◌, ℕ, ◌+◌, ◌<◌, ◌≤◌, List, false, length, slice_index_or};
 ghost use Rattle.journal.specs.Log.{no_splice, set_up, next_generation};
 ghost use Rattle.journal.specs.Small.{news, set_up_of};
 ghost use Rattle.records.specs.Pages.{page_of};
@@ -10,10 +10,12 @@ ghost use Rattle.engine.specs.Machine.{no_news};
 ghost use Rattle.memory.specs.Abstract.{small_of};
 ghost use Rattle.memory.specs.Registers.{TameKept, Tame};
 ghost use Rattle.commits.specs.Acts.{Says};
+ghost use Rattle.commits.specs.Setters.{tapes};
 ghost use Rattle.compaction.specs.Carry.{begin_other as other_begun, put_other as other_put, put_head as head_put, set_up_next as next_set_up, begin_old as old_begun, after_switch as switched_after};
 ghost use Rattle.compaction.specs.Laid.{laid};
 
 use crate::entries::{carry, go_on};
+use commits::{LIMIT, passive};
 use journal::{Also, Numbers, Splice, generation_after};
 use memory::{Carrying, Kept, Phase, Registers, Tapes, file_at, file_name, weight_at};
 use protocol::Told;
@@ -32,14 +34,11 @@ pub fn begin_other(registers: &mut Registers, quota: u64, waking: bool) -> Told
     registers.tapes.other = 0;
     registers.tapes.cursor = 0;
     registers.carrying = Carrying {
-        index: 0,
-        part: 0,
-        long: 0,
-        start: 0,
         quota,
         waking,
+        ..Carrying::default()
     };
-    Told::Begin(1 - registers.tapes.active)
+    Told::Begin(passive(registers))
 }
 
 /// The record at the front of the row goes on the other tape.
@@ -49,7 +48,7 @@ fn put_other(registers: &mut Registers) -> Told
 {
     registers.phase = Phase::SettingUp;
     registers.tapes.other += 1;
-    Told::Append(1 - registers.tapes.active)
+    Told::Append(passive(registers))
 }
 
 /// The head of the other tape.
@@ -57,7 +56,7 @@ pub fn put_head(registers: &mut Registers, out: &mut [u8]) -> Told
     requires { (131072 ≤ length out.old) × (Tame registers.old) }
     ensures { (m : List ℕ) → Says (head_put registers.old m) registers.new m result out.old out.new }
 {
-    let generation = generation_after(registers.tapes.generation) % 4_294_967_296;
+    let generation = generation_after(registers.tapes.generation) % LIMIT;
     encode_head(out, generation as u32, registers.kept.entries as u32);
     put_other(registers)
 }
@@ -69,7 +68,7 @@ fn no_splice() -> Splice<u32>
     Splice::default()
 }
 
-/// A commit that sets the small state alone, with the name of a file.
+/// A commit that sets the small state alone, with the name of a file. It needs a page of the lent row and not the whole row, so 512 is asked for here and below.
 fn encode_numbers(out: &mut [u8], numbers: Numbers<u32>, name: &[u64])
     requires { (512 ≤ length out.old) × (length name.now ≤ 64) }
     ensures { out.new ≡ laid (page_of (set_up (news_of numbers (low_bytes name.now)))) out.old }
@@ -141,19 +140,29 @@ pub fn begin_old(registers: &mut Registers) -> Told
     Told::Begin(registers.tapes.active)
 }
 
+/// A tape that counts, with so many records, while nothing is carried to the other one.
+pub fn one_tape(room: u64, active: u64, generation: u64, used: u64) -> Tapes
+    ensures { result ≡ tapes room active generation used false 0 0 }
+{
+    Tapes {
+        room,
+        active,
+        generation,
+        used,
+        ..Tapes::default()
+    }
+}
+
 /// The other tape counts.
 pub fn after_switch(registers: &mut Registers, memory: &mut [u64], out: &mut [u8]) -> Told
     requires { (length memory.old ≡ 262144) × ((131072 ≤ length out.old) × (Tame registers.old)) }
     ensures { Says (switched_after registers.old memory.old) registers.new memory.new result out.old out.new }
 {
-    registers.tapes = Tapes {
-        room: registers.tapes.room,
-        active: 1 - registers.tapes.active,
-        generation: generation_after(registers.tapes.generation),
-        used: registers.tapes.other,
-        busy: false,
-        other: 0,
-        cursor: 0,
-    };
+    registers.tapes = one_tape(
+        registers.tapes.room,
+        passive(registers),
+        generation_after(registers.tapes.generation),
+        registers.tapes.other,
+    );
     go_on(registers, memory, out)
 }

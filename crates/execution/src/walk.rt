@@ -35,7 +35,7 @@ fn fetch(registers: &mut Registers, memory: &[u64]) -> Told
         text + registers.walking.line,
     );
     registers.phase = Phase::Fetching;
-    Told::Read(2 * (entry.at + registers.walking.part) + entry.tape)
+    Told::read(entry.tape, entry.at + registers.walking.part)
 }
 
 /// Whether lines are looked at.

@@ -1,10 +1,11 @@
 //! What the house is told, and what it wants done: both sides of one step.
 #![tactic(auto)]
 
-ghost use Rattle.std.specs.Prelude.{◌≡◌, ◌≤◌, length, take};
+ghost use Rattle.std.specs.Prelude.{◌≡◌, ◌+◌, ◌*◌, ◌<◌, ◌≤◌, length, take};
 ghost use Rattle.protocol.specs.Events.{Decodes, from_eight as eighth};
 
-/// How many bytes the row at least has in which records and shown rows are handed out.
+/// How many bytes the row at least has in which records and shown rows are handed out. `step` asks whether it has; below, contracts say `131072 ≤ length out`:
+/// the row is lent by the caller of `step` and longer than any act needs, so no type of these crates owns it.
 pub const ROW: usize = 131_072;
 
 /// What the house is told; at `step` it stands by its number.
@@ -40,7 +41,8 @@ impl TryFrom<u64> for Event {
     }
 }
 
-/// What the house wants done. A tape is named by its number, 0 or 1, as is a record: an act is an enum of which some variants have numbers.
+/// What the house wants done. `step` is the interface that theorem and programs speak of, and the numbers here are those of the definition (`Act` in
+/// crates/plain/specs/Run.antt): tapes, records and refusals are numbers there, and `ActTold` tells `read t k` as the one number `2 * k + t`.
 #[derive(Clone, Copy)]
 pub enum Told {
     /// Read a record: twice its number, and the tape.
@@ -57,6 +59,16 @@ pub enum Told {
     Done,
     /// The command is refused, with a number.
     No(u64),
+}
+
+impl Told {
+    /// Read the record there of a tape.
+    pub fn read(tape: u64, at: u64) -> Told
+        requires { 2 * at + tape < 18446744073709551616 }
+        ensures { result ≡ Told.Read (2 * at + tape) }
+    {
+        Told::Read(2 * at + tape)
+    }
 }
 
 /// The number that up to eight bytes write, the highest first.

@@ -4,7 +4,8 @@ ghost use Rattle.std.specs.Prelude.{ℕ, ◌≤◌, List, length};
 ghost use Rattle.commits.specs.Acts.{Says};
 ghost use Rattle.recovery.specs.Wake.{fresh_first as BegunFirst, fresh_next as begun_next};
 
-use crate::heads::{nothing_kept, one_tape};
+use crate::heads::nothing_kept;
+use compaction::one_tape;
 use memory::{Phase, Registers};
 use protocol::Told;
 use records::encode_head;

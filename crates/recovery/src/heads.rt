@@ -9,8 +9,9 @@ ghost use Rattle.commits.specs.Acts.{Says};
 ghost use Rattle.commits.specs.Setters.{tapes, in_phase, with_tapes};
 ghost use Rattle.recovery.specs.Wake.{nothing_kept, starting, wake as woken, woke_first as woken_first, woke_second as woken_second};
 
+use compaction::one_tape;
 use journal::{Tape, counting};
-use memory::{Kept, Phase, Registers, Tapes};
+use memory::{Kept, Phase, Registers};
 use protocol::Told;
 use records::{Record, decode_checked};
 
@@ -19,19 +20,6 @@ pub fn nothing_kept() -> Kept
     ensures { result ≡ nothing_kept }
 {
     Kept::default()
-}
-
-/// A tape that counts, with so many records, while nothing is carried to the other one.
-pub fn one_tape(room: u64, active: u64, generation: u64, used: u64) -> Tapes
-    ensures { result ≡ tapes room active generation used false 0 0 }
-{
-    Tapes {
-        room,
-        active,
-        generation,
-        used,
-        ..Tapes::default()
-    }
 }
 
 /// The registers when power came.
@@ -50,10 +38,10 @@ pub fn wake(registers: &mut Registers, room: u64) -> Told
     ensures { (m out : List ℕ) → Says (woken room m) registers.new m result out out }
 {
     *registers = woken_up(room);
-    Told::Read(0)
+    Told::read(0, 0)
 }
 
-/// The generation that a head names; 0 where there is none.
+/// The generation that a head names; 0 where there is none, as `journal::counting` takes it and the register of generations keeps it.
 fn head_generation(read: &[u8]) -> u32
     ensures { result ≡ head_of (checked_record_of read.now) }
 {
@@ -69,7 +57,7 @@ pub fn woke_first(registers: &mut Registers, read: &[u8]) -> Told
 {
     registers.phase = Phase::WakeSecond;
     registers.tapes.generation = head_generation(read) as u64;
-    Told::Read(1)
+    Told::read(1, 0)
 }
 
 /// A tape counts: its records are asked for, from the first one on.
@@ -79,7 +67,7 @@ fn count(registers: &mut Registers, tape: u64, generation: u64) -> Told
 {
     registers.phase = Phase::Replaying;
     registers.tapes = one_tape(registers.tapes.room, tape, generation, 0);
-    Told::Read(tape)
+    Told::read(tape, 0)
 }
 
 /// Both heads were read: the tape that counts is replayed, or the first one begins.
@@ -93,6 +81,7 @@ pub fn woke_second(registers: &mut Registers, read: &[u8]) -> Told
         registers.phase = Phase::FreshBegun;
         return Told::Begin(0);
     };
+    // `Tape` has no numbers in journal: here each number stands beside the generation that it counts with.
     match tape {
         Tape::First => count(registers, 0, first),
         Tape::Second => count(registers, 1, second as u64),

@@ -15,7 +15,7 @@ use memory::{Position, Registers};
 use protocol::Told;
 use records::{Record, decode_checked};
 
-/// How many entries the directory has at most.
+/// How many entries the directory has at most: three in each of its 174,763 words.
 const ENTRIES: u32 = 524_289;
 
 /// Where the record is that was read.
@@ -88,7 +88,7 @@ fn next_record(registers: &mut Registers) -> Told
     ensures state { registers.new ≡ with_tapes (with_used (suc registers.old.tapes.used) registers.old.tapes) registers.old }
 {
     registers.tapes.used += 1;
-    Told::Read(2 * registers.tapes.used + registers.tapes.active)
+    Told::read(registers.tapes.active, registers.tapes.used)
 }
 
 /// A record of the tape that counts was read. Behind the last one, or at one that is broken, all that counts is carried to the other tape.

@@ -1,6 +1,7 @@
-use Rattle.std.proofs.Common.{◌+◌, ◌*◌, ◌<◌, ◌≤◌, sym, refl, subst, add-one, arith}
+use Rattle.std.proofs.Common.{◌+◌, ◌*◌, ◌<◌, ◌≤◌, sym, refl, ◌∙◌, subst, add-one, arith}
 use Rattle.std.proofs.lemmas.Bool.{lt-ltb, le-ltb}
 use Rattle.engine.specs.Packing.{records_of}
+use Rattle.memory.specs.Sections.{with_entry}
 use Rattle.memory.specs.declared.phase.Phase.TheVariants.{CarryRead}
 use Rattle.protocol.specs.declared.Told.TheVariants.{Read}
 use Rattle.protocol.specs.Acts.{ActTold}
@@ -10,20 +11,14 @@ use Rattle.compaction.specs.Carry.{after_carry, carry}
 use Rattle.compaction.proofs.Placed.{Near, entry_near}
 use Rattle.compaction.proofs.entries.after_carry.Goals as goal
 
-pub overflow_add-result : goal.overflow_add-result
-overflow_add-result c =
+pub overflow_add-position : goal.overflow_add-position
+overflow_add-position c =
     let n : Near c.entry-position.result = subst Near (sym c.entry-position.ensures) (entry_near _ _ _) in
     let t = c.requires.1.1.carrying.part in
     omega (arith, n.at, t)
 
-pub overflow_mul-result : goal.overflow_mul-result
-overflow_mul-result c =
-    let n : Near c.entry-position.result = subst Near (sym c.entry-position.ensures) (entry_near _ _ _) in
-    let t = c.requires.1.1.carrying.part in
-    omega (arith, n.at, t)
-
-pub overflow_add-result-then-part-records_of : goal.overflow_add-result-then-part-records_of
-overflow_add-result-then-part-records_of c =
+pub read-requires : goal.read-requires
+read-requires c =
     let n : Near c.entry-position.result = subst Near (sym c.entry-position.ensures) (entry_near _ _ _) in
     let t = c.requires.1.1.carrying.part in
     omega (arith, n.at, n.tape, t)
@@ -38,7 +33,7 @@ returns-then-part-records_of c =
     simp (lt-ltb _ _ (subst (λ n. n < few) part (subst (λ n. r.carrying.part + 1 < n) c.records_of.ensures c.if-part-records_of.true))) record {
       registers = λ i. in_phase CarryRead (with_carrying (carrying r.carrying.index (part i) r.carrying.long r.carrying.start r.carrying.quota r.carrying.waking) r);
       memory = refl;
-      act = (λ i. Read (2 * ((at i).at + part i) + (at i).tape), refl);
+      act = (c.read.ensures ∙ (λ i. Read (2 * ((at i).at + part i) + (at i).tape)), refl);
     }
 
 pub returns : goal.returns
@@ -48,7 +43,8 @@ returns c =
     let few = records_of r.carrying.long in
     let quota = c.saturating_sub-registers.ensures in
     let cursor = add-one r.carrying.index in
-    let memory = c.set_entry.ensures in
+    let passive = c.passive.ensures in
+    let memory = c.set_entry.ensures ∙ (λ i. with_entry r.carrying.index record { tape = passive i; at = r.carrying.start } c.args.memory.now) in
     simp (le-ltb _ _ (subst (λ n. few ≤ n) (add-one r.carrying.part) (subst (λ n. n ≤ r.carrying.part + 1) c.records_of.ensures c.if-part-records_of.false)))
     (subst (λ d. Says d c.carry.new.registers c.carry.new.memory c.carry.result c.args.out.now c.carry.new.out)
     (λ i. carry (with_carrying (carrying r.carrying.index 0 0 r.carrying.start (quota i) r.carrying.waking) (with_tapes (with_cursor (cursor i) r.tapes) r)) (memory i))

@@ -1,5 +1,6 @@
-use Rattle.std.proofs.Common.{sym, refl, ap, subst, arith}
+use Rattle.std.proofs.Common.{sym, refl, ap, ◌∙◌, subst, arith}
 use Rattle.std.proofs.lemmas.Bool.{lt-ltb, le-ltb}
+use Rattle.protocol.specs.declared.Told.TheVariants.{Fasten}
 use Rattle.protocol.specs.Acts.{ActTold}
 use Rattle.compaction.specs.Carry.{carry_entry}
 use Rattle.compaction.proofs.Placed.{Near, entry_near, read_of}
@@ -7,15 +8,10 @@ use Rattle.compaction.proofs.entries.carry_entry.Goals as goal
 
 pub returns-then-i-registers : goal.returns-then-i-registers
 unfolding carry_entry ActTold
-returns-then-i-registers c = λ out. simp (le-ltb c.args.i c.args.registers.now.kept.entries c.if-i-registers.true) record { registers = refl; memory = refl; act = (refl, refl) }
+returns-then-i-registers c = λ out. simp (le-ltb c.args.i c.args.registers.now.kept.entries c.if-i-registers.true) record { registers = refl; memory = refl; act = (ap Fasten c.passive.ensures, refl) }
 
-pub overflow_mul-result : goal.overflow_mul-result
-overflow_mul-result c =
-    let n : Near c.entry-position.result = subst Near (sym c.entry-position.ensures) (entry_near _ _ _) in
-    omega (arith, n.at)
-
-pub overflow_add-result : goal.overflow_add-result
-overflow_add-result c =
+pub read-requires : goal.read-requires
+read-requires c =
     let n : Near c.entry-position.result = subst Near (sym c.entry-position.ensures) (entry_near _ _ _) in
     omega (arith, n.at, n.tape)
 
@@ -25,5 +21,5 @@ returns c =
     λ out. simp (lt-ltb c.args.i c.args.registers.now.kept.entries c.if-i-registers.false) record {
       registers = refl;
       memory = refl;
-      act = (ap read_of c.entry-position.ensures, refl);
+      act = (c.read.ensures ∙ ap read_of c.entry-position.ensures, refl);
     }

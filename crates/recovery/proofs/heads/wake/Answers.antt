@@ -5,4 +5,4 @@ use Rattle.recovery.proofs.heads.wake.Goals as goal
 
 pub returns : goal.returns
 unfolding wake ActTold
-returns c = λ m out. record { registers = c.woken_up.ensures; memory = refl; act = (refl, refl) }
+returns c = λ m out. record { registers = c.woken_up.ensures; memory = refl; act = (c.read.ensures, refl) }

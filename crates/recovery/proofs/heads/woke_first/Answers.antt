@@ -12,5 +12,5 @@ returns c =
     λ m out. record {
       registers = ap (λ g. in_phase WakeSecond (with_tapes (with_generation g r.tapes) r)) c.head_generation.ensures;
       memory = refl;
-      act = (refl, refl);
+      act = (c.read.ensures, refl);
     }
