@@ -17,8 +17,8 @@ use memory::{Kept, Phase, Position, Putting, Registers};
 
 /// How many bytes of a line a record holds at most.
 const SHARE: u64 = records::SHARE as u64;
-/// How many lines can be pending: one in each of the 65,536 cells of text, a number that memory keeps to itself.
-const PENDING: u64 = 65_536;
+/// How many lines can be pending: one in each cell of text.
+const PENDING: u64 = memory::TEXT as u64;
 
 /// Where a line is in the text.
 #[derive(Clone, Copy)]

@@ -14,7 +14,7 @@ use commands::{Update, stand_size};
 use journal::{Also, Numbers, Source, Splice};
 use memory::{Kept, Registers};
 
-/// A page has 32 bits for each number.
+/// A page has 32 bits for each number. (`memory::LIMIT` is of registers, and could be another.)
 pub const LIMIT: u64 = 4_294_967_296;
 
 /// What copies of lines weigh: of those of a file, or of those walked over.

@@ -153,7 +153,10 @@ impl Row {
     /// Whether the command stayed within what is allowed.
     fn is_within(self, outcome: Outcome) -> bool {
         !self.case.is_bounded()
-            || outcome.map_or(true, |cost| cost.records() <= self.case.allowed(cost.shown.0))
+            || outcome.map_or(
+                true,
+                |cost| cost.records() <= self.case.allowed(cost.shown.0),
+            )
     }
 
     /// The records that were read and put on at rest.

@@ -106,7 +106,8 @@ fn open_gap(dir: &mut [u64], cut: Cut, k: usize)
 }
 
 /// Moves what stands behind the entries that are cut, so that `k` places are there in place of these, and says how many entries are in use
-/// then. What the places hold is what stood there. None where it can't be done, and then nothing is changed.
+/// then. What the places hold is what stood there. None where it can't be done, and then nothing is changed: here and in `splice` and `duplicate`
+/// a count comes back, and `OutOfRange` would say no more than None.
 pub fn make_room(dir: &mut [u64], cut: Cut, k: usize) -> Option<usize>
     ensures done { Splices (length (slots dir.old)) cut.count cut.from cut.gone k → (result ≡ Some (cut.count - cut.gone + k)) × (slots dir.new ≡ copied (cut.from + cut.gone) (cut.count - (cut.from + cut.gone)) (cut.from + k) (slots dir.old)) }
     ensures refused { (Splices (length (slots dir.old)) cut.count cut.from cut.gone k → ⊥) → (result ≡ None) × (dir.new ≡ dir.old) }

@@ -10,7 +10,7 @@ ghost use Rattle.memory.specs.Bounds.{records_bound, records_small, weight_bound
 use crate::{Lines, line_end};
 use commands::LINE_WEIGHT;
 
-/// How many records a line of so many bytes takes.
+/// How many records a line of so many bytes takes. Not `records::records_for`: the machine's definition has three for all that is longer.
 pub fn records_of(long: u64) -> u64
     ensures { result ≡ recorded long }
 {

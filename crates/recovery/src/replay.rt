@@ -15,8 +15,8 @@ use memory::{Position, Registers};
 use protocol::Told;
 use records::{Record, decode_checked};
 
-/// How many entries the directory has at most: three in each of its 174,763 words.
-const ENTRIES: u32 = 524_289;
+/// How many entries the directory has at most.
+const ENTRIES: u32 = memory::ENTRIES as u32;
 
 /// Where the record is that was read.
 fn here(registers: &Registers) -> Position
@@ -64,7 +64,7 @@ fn replay_copy(registers: &Registers, memory: &mut [u64], index: u32, part: u8)
     }
 }
 
-/// A commit; where it can't be done, all stays.
+/// A commit; where it can't be done, all stays. Its bound is asked for as one of a number: `Loose` has it of whole registers.
 fn replay_commit(
     registers: &mut Registers,
     memory: &mut [u64],
