@@ -146,10 +146,7 @@ pub fn command_bounds(sizes: Sizes, simple: Simple<'_>) -> Result<Bounds, Refusa
 fn known_place(place: Place<'_>) -> bool
     ensures { result ≡ plain_address (at_place place.entry) }
 {
-    match place {
-        Place::Current | Place::Last | Place::Number(_) => true,
-        Place::Mark(_) | Place::Next(_) | Place::Previous(_) => false,
-    }
+    matches!(place, Place::Current | Place::Last | Place::Number(_))
 }
 
 fn known_deed(deed: Deed<'_>) -> bool

@@ -131,7 +131,7 @@ fn lay_text(row: &mut [u8], memory: &[u64], kept: u64, bytes: &[u8])
     row[from..from + bytes.len()].copy_from_slice(bytes);
 }
 
-/// The row of a line, before it its number if it is to be shown too. Says how many bytes it has.
+/// The row of a line, before it its number if it is to be shown too: a bool, as `row_of` of the definition takes it. Says how many bytes it has.
 fn lay_row(
     registers: &Registers,
     memory: &[u64],

@@ -117,6 +117,7 @@ impl<E: Editor> Session<E> {
     fn act(&mut self, told: Told, rows: Rows) -> Result<ControlFlow<End, Event>, Fault> {
         match told {
             Told::Read(which) => {
+                // Twice its number and the tape, as the definition of a device takes it apart.
                 self.tapes.get(which % 2)?.read(which / 2, &mut self.page)?;
                 return Ok(ControlFlow::Continue(Event::Record));
             }

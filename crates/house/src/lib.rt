@@ -49,8 +49,8 @@ fn answer(registers: &mut Registers, event: Event, bytes: &[u8]) -> Told
 
 /// One step: what is told is 0 power, with the records that a tape has room for as eight bytes, the highest first; 1 a command, 2 a record
 /// that was asked for or nothing, 3 that the last act is done. Where the memory has another length or the row is shorter, or for another kind, it says
-/// `No(0)` and changes nothing. `core_house::step` has the same frame: a shared one would take what the house does as a closure, and its clause over registers,
-/// memory and row, which is longer than the six lines of the frame.
+/// `No(0)` and changes nothing. `core_house::step` has the same frame: a shared one would take what the house does as a closure or by a trait, and its
+/// clause over registers, memory and row, which is longer than the frame; and `protocol` stands below `memory`, which has the registers.
 pub fn step(memory: &mut [u64], kind: u64, bytes: &[u8], out: &mut [u8]) -> Told
     ensures { StepSays own memory.old kind bytes.now out.old (step_fits own memory.old kind bytes.now out.old) result memory.new out.new }
 {

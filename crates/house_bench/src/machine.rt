@@ -25,7 +25,7 @@ impl Cost {
     }
 }
 
-/// A command is refused, with this number.
+/// A command is refused, with this number. A type of its own: it ends a measurement, and the editors' is told to a person.
 #[derive(Clone, Copy, Debug, PartialEq, Eq)]
 pub struct Refusal(pub u64);
 

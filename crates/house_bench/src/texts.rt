@@ -54,11 +54,11 @@ impl Text {
 
     /// A command, and so many lines of the text behind it.
     pub fn given(self, mut command: String, lines: u64) -> Result<String, Fault> {
-        let line = "x".repeat(*command.allocator(), self.width as usize)?;
-        for _ in 0..lines {
-            command.push('\n')?;
-            command.push_str(line.as_str())?;
-        }
+        let heap = *command.allocator();
+        let line = "x".repeat(heap, self.width as usize)?;
+        let line = format!(in heap; "\n{line}")?;
+        let lines = line.as_str().repeat(heap, lines as usize)?;
+        command.push_str(lines.as_str())?;
         Ok(command)
     }
 }

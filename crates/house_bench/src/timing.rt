@@ -63,6 +63,7 @@ impl Bench<'_> {
         Ok(())
     }
 
+    // Three functions: what is typed, and which steps are told of, differ in each.
     /// One line put in at the front and taken out again.
     fn front(&mut self) -> Result<(), Fault> {
         let put = self.text.given(format!(in self.heap(); "1i")?, 1)?;

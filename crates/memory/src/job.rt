@@ -25,6 +25,7 @@ impl From<u64> for Lines {
     ghost from_gives = { λ n lines. lines ≡ decoded n };
 
     fn from(n: u64) -> Self {
+        // Matched, since there is no cast from a number to an enum.
         match n {
             1 => Lines::Given,
             2 => Lines::Joined,

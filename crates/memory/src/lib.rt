@@ -9,6 +9,8 @@
 //! | 4,480 | 70,016 | cells: in each the low 8 bits are a byte of text, the bits above are the position of a pending line |
 //! | 70,016 | 244,779 | the directory, three entries of 21 bits in each number |
 //! | 244,779 | 262,144 | not used |
+//!
+//! How many places of a section are in use is a register: the memory holds numbers only, so no struct has both.
 #![tactic(auto)]
 
 mod carrying;

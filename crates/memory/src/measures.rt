@@ -74,7 +74,7 @@ impl Measure for Records {
 }
 
 /// What the lines come to that are put on, of a text of `len` bytes. `lines` and `len` are two of the fields of a `Job`: a struct of both would be
-/// made anew for each call.
+/// made anew for each call, and a `Job` has a plan and a name besides, which aren't looked at.
 fn total<M: Measure>(memory: &[u64], lines: Lines, len: u64) -> u64
     requires { (length memory.now ≡ 262144) × (len ≤ 65536) }
     ensures total { result ≡ added_up (λ l. M.size (length l)) (job_lines lines (text_of len memory.now)) }

@@ -1,5 +1,6 @@
 //! A plan in fifteen numbers, since the fixed memory holds nothing else: each enum is the number of its variant, and the numbers in it stand behind.
-//! Functions, since `From` is not to be had: neither the enums nor the numbers are of this crate (the orphan rule).
+//! Functions, since `From` is not to be had: neither the enums nor the numbers are of this crate (the orphan rule), and
+//! the crates of the enums know nothing of this layout.
 
 ghost use Rattle.std.specs.Prelude.{◌≡◌, ◌≤◌, length};
 ghost use Rattle.memory.specs.Numbers.{walk_of as walked, walk_number as step, update_of as updated, update_kind, update_place, rows_of as rowed, rows_kind, rows_value, source_by as sourced, source_kind, source_from, source_to};

@@ -147,7 +147,7 @@ pub fn file_lines(memory: &[u64], files: u64) -> u64
     lines
 }
 
-/// What all files weigh.
+/// What all files weigh. (`execution` has the same sum for one file: a method would ask for the bounds of both numbers, and be longer than the sum.)
 pub fn file_weight(memory: &[u64], files: u64) -> u64
     requires { (length memory.now ≡ 262144) × (files ≤ 64) }
     ensures total { result ≡ added_up entry_size (files_of files memory.now) }

@@ -30,7 +30,7 @@ pub struct File {
 #[derive(Clone, PartialEq, Drop)]
 pub struct House {
     /// Where all of it lies.
-    pub(crate) heap: Global,
+    pub heap: Global,
     pub lines: Vec<Vec<u8>>,
     pub current: u64,
     pub files: Vec<File>,

@@ -18,7 +18,7 @@ pub enum Refusal {
 #[derive(Clone, Copy, PartialEq, Eq)]
 pub struct NoRefusal(pub u64);
 
-/// The number is the one that a house tells.
+/// The number is the one that a house tells, so numbers are matched here.
 impl TryFrom<u64> for Refusal {
     type Error = NoRefusal;
 

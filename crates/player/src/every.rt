@@ -89,6 +89,7 @@ impl Trials {
         Ok(())
     }
 
+    // Here and in `command` not by `run`: between two acts stops are tried.
     /// A wake-up on these tapes, stopped at its acts.
     fn wake_with_stops(&mut self, mut device: Device, guess: &Guess) -> Result<(), Fault> {
         self.waking.forget();

@@ -101,7 +101,7 @@ impl Device {
         }
     }
 
-    /// The record that the house asks for by twice its number, and the tape.
+    /// The record that the house asks for by twice its number, and the tape: taken apart here as by the definition, with which nothing is shared.
     pub fn read(&self, which: u64) -> &[u8] {
         self.tapes[(which % 2) as usize].read(which / 2)
     }

@@ -31,6 +31,7 @@ impl TryFrom<u64> for Event {
     ghost try_from_gives = { Decodes };
 
     fn try_from(kind: u64) -> Result<Self, NoEvent> {
+        // The one place where a kind comes in as a number: there is no cast to an enum.
         match kind {
             0 => Ok(Event::Power),
             1 => Ok(Event::Command),

@@ -174,8 +174,8 @@ fn stored_name(also: Also<u32>, name: &[u64]) -> &[u64]
     }
 }
 
-/// A commit; the name of a file that it stores lies in cells of memory. A read one (`Record::Commit`) has the name as bytes of its page, so no struct
-/// can hold a commit both as it comes and as it goes.
+/// A commit; the name of a file that it stores lies in cells of memory. No struct of the three: it would be generic in what
+/// the name is made of (a read one has bytes), and be taken apart at once wherever it comes.
 pub fn encode_commit(out: &mut [u8], splice: Splice<u32>, numbers: Numbers<u32>, name: &[u64])
     requires { (512 ≤ length out.old) × (length name.now ≤ 64) }
     ensures { out.new ≡ page_of (a_commit (splice_of splice) (news_of numbers (low_bytes name.now))) ++ drop 512 out.old }

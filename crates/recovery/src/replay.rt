@@ -96,6 +96,7 @@ pub fn replay_record(registers: &mut Registers, memory: &mut [u64], read: &[u8])
     requires { (length memory.old ≡ 262144) × (Tame registers.old) }
     ensures { (out : List ℕ) → Says (record_replayed read.now registers.old memory.old) registers.new memory.new result out out }
 {
+    // The next record is asked for in each arm: what the tape holds and registers keep is another in each, and is shown there.
     match decode_checked(read) {
         Record::Head { entries, .. } => {
             replay_head(registers, memory, entries);
