@@ -158,6 +158,7 @@ impl Typist {
 
     /// Bytes that mean something to a reader, in any order.
     fn push_noise(&mut self) -> Result<(), Fault> {
+        // Not collected: each byte changes the dice.
         for _ in 0..self.dice.below(9) {
             let byte = self.dice.one_of(b"0139.$'/?+-,;%aicdjmtkpn=uUwerfsgv \\x&");
             self.text.push(byte.unwrap_or(b'.'))?;
