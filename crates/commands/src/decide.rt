@@ -23,7 +23,12 @@ fn short_lines(lines: Lines<'_>) -> Option<u64>
     requires { length (lines_in lines) < 4294967296 }
     ensures { result ≡ when (short_all (lines_in lines.entry)) (length (lines_in lines.entry)) }
 {
-    lines.all_short().then_some(lines.count() as u64)
+    // By `then_some` the lines would be counted also where one is too long; by `then` the count is lost to the proof.
+    if lines.all_short() {
+        Some(lines.count() as u64)
+    } else {
+        None
+    }
 }
 
 /// The line, if there is one, or 0 before the first.

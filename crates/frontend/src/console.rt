@@ -4,7 +4,7 @@ use crate::refusal::{Reason, Refused};
 use crate::rows::Rows;
 use crate::terminals::Terminals;
 use std::io;
-use std::io::{BufRead, BufReader, BufWriter, Split, Stdin, Stdout, Write};
+use std::io::{BufRead, BufReader, BufWriter, Stdin, Stdout, Write};
 
 /// Stands before each line that is given to a command.
 const GIVEN: &[u8] = b": ";
@@ -12,7 +12,7 @@ const GIVEN: &[u8] = b": ";
 /// Standard input, line by line, and standard output.
 #[derive(Drop)]
 pub struct Console {
-    lines: Split<BufReader<Stdin>>,
+    input: BufReader<Stdin>,
     output: BufWriter<Stdout>,
     terminals: Terminals,
 }
@@ -21,7 +21,7 @@ impl Console {
     pub fn new(rt: &HostRuntime, terminals: Terminals) -> io::Result<Console> {
         let heap = rt.alloc();
         Ok(Console {
-            lines: BufReader::new(heap, rt.stdin())?.split(heap, b'\n'),
+            input: BufReader::new(heap, rt.stdin())?,
             output: BufWriter::new(heap, rt.stdout())?,
             terminals,
         })
@@ -49,9 +49,17 @@ impl Console {
         self.output.flush()
     }
 
-    /// The next line, without the byte that ends it, which the last one may lack.
-    pub fn read_line(&mut self) -> io::Result<Option<Vec<u8>>> {
-        self.lines.next().transpose()
+    /// The next line in place of what `line` holds, without the byte that ends it, which the last one may lack; none at the end of the input. The buffer is
+    /// lent: `split` would take memory for each line.
+    pub fn read_line<'a>(&mut self, line: &'a mut Vec<u8>) -> io::Result<Option<&'a [u8]>> {
+        line.clear();
+        if self.input.read_until(b'\n', line)? == 0 {
+            return Ok(None);
+        }
+        if line.last() == Some(&b'\n') {
+            let _ = line.pop();
+        }
+        Ok(Some(line.as_slice()))
     }
 
     /// A row that the house shows.

@@ -49,13 +49,14 @@ impl<E: Editor> Session<E> {
     /// Power, and then what is typed, to the end of the input.
     pub fn talk(&mut self, rt: &HostRuntime) -> Result<(), Fault> {
         self.wake(rt)?;
+        let mut text = Vec::new(rt.alloc());
         // Counted, since a proof has to see an end, and an input has none that is known.
         for _ in 0..u64::MAX {
             self.prompt()?;
-            let Some(text) = typing::read_command(&mut self.console)? else {
+            let Some(command) = typing::read_command(&mut self.console, &mut text)? else {
                 break;
             };
-            self.command(text.as_slice())?;
+            self.command(command)?;
         }
         self.console.leave()?;
         Ok(())

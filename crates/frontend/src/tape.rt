@@ -70,6 +70,19 @@ fn measure(file: &File, room: u64) -> Result<u64, Trouble> {
     Ok(facts.len())
 }
 
+/// The file of that name, from which other editors are kept away, and how many bytes it has.
+fn open_file<E: Editor>(rt: &HostRuntime, name: &str, room: u64) -> Result<(File, u64), Trouble> {
+    let file = OpenOptions::new()
+        .read(true)
+        .append(true)
+        .create(true)
+        .open(rt, name)
+        .map_err(|reason| Trouble::Open(reason))?;
+    lock::<E>(&file)?;
+    let bytes = measure(&file, room)?;
+    Ok((file, bytes))
+}
+
 /// A file of records, how many bytes it had when it was opened, how many records it has, and how many it has room for.
 #[derive(Drop)]
 pub struct Tape {
@@ -83,21 +96,17 @@ pub struct Tape {
 impl Tape {
     /// The file of that name, which is made if it isn't there. Nothing is written yet.
     fn open<E: Editor>(rt: &HostRuntime, name: String, room: u64) -> Result<Tape, Fault> {
-        let file = OpenOptions::new()
-            .read(true)
-            .append(true)
-            .create(true)
-            .open(rt, name.as_str())
-            .map_err(|reason| Trouble::Open(reason).of(&name))?;
-        lock::<E>(&file).map_err(|trouble| trouble.of(&name))?;
-        let bytes = measure(&file, room).map_err(|trouble| trouble.of(&name))?;
-        Ok(Tape {
-            file,
-            name,
-            bytes,
-            records: count(bytes),
-            room,
-        })
+        match open_file::<E>(rt, name.as_str(), room) {
+            Ok((file, bytes)) => Ok(Tape {
+                file,
+                name,
+                bytes,
+                records: count(bytes),
+                room,
+            }),
+            // The name itself and no copy, for which there may be no memory.
+            Err(trouble) => Err(Fault::File { name, trouble }),
+        }
     }
 
     /// Looks at every record before any is believed. The generation that the head names comes back.

@@ -44,28 +44,32 @@ pub fn rows(text: &[u8]) -> Rows
 
 /// Lines up to one with only a dot, or to the end of the input, each behind a byte 10.
 fn read_given(console: &mut Console, text: &mut Vec<u8>) -> Result<(), Fault> {
+    let mut line = Vec::new(*text.allocator());
     // Counted, and not over the lines themselves: a person is asked before each.
     for _ in 0..u64::MAX {
         console.ask_given()?;
-        let Some(line) = console.read_line()? else {
+        let Some(line) = console.read_line(&mut line)? else {
             break;
         };
-        if line.as_slice() == b".".as_slice() {
+        if line == b".".as_slice() {
             break;
         }
         text.push(b'\n')?;
-        text.extend_from_slice(line.as_slice())?;
+        text.extend_from_slice(line)?;
     }
     Ok(())
 }
 
-/// The next command, to the end of the input.
-pub fn read_command(console: &mut Console) -> Result<Option<Vec<u8>>, Fault> {
-    let Some(mut text) = console.read_line()? else {
+/// The next command in place of what `text` holds; none at the end of the input.
+pub fn read_command<'a>(
+    console: &mut Console,
+    text: &'a mut Vec<u8>,
+) -> Result<Option<&'a [u8]>, Fault> {
+    if console.read_line(text)?.is_none() {
         return Ok(None);
-    };
-    if takes_lines(text.as_slice()) {
-        read_given(console, &mut text)?;
     }
-    Ok(Some(text))
+    if takes_lines(text.as_slice()) {
+        read_given(console, text)?;
+    }
+    Ok(Some(text.as_slice()))
 }

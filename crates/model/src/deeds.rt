@@ -296,7 +296,10 @@ impl House {
             Deed::Join => self.join(self.lines_of(command)?),
             Deed::Print => self.show(self.lines_of(command)?),
             Deed::Number => self.show_numbered(self.lines_of(command)?),
-            Deed::Place => self.tell(self.clone()?, self.target(self.lines_of(command)?)?),
+            Deed::Place => {
+                let line = self.target(self.lines_of(command)?)?;
+                self.tell(self.clone()?, line)
+            }
             Deed::GoTo => self.show(Span::one(self.lines_of(command)?.to)),
             Deed::Save(name) => self.save(command, name),
             Deed::Edit(name) => self.edit(name),

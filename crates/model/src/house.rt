@@ -134,16 +134,24 @@ impl House {
         &self,
         from: u64,
         to: u64,
-        others: Vec<Vec<u8>>,
+        mut others: Vec<Vec<u8>>,
         current: u64,
     ) -> Result<House, AllocError> {
-        let mut next = self.at(current)?;
-        let to = next.lines.len().min(to as usize);
+        let to = self.lines.len().min(to as usize);
         let from = to.min(from as usize);
+        // Not all lines by `at`, to be cut then: those that go would be copied too.
+        let mut lines = Vec::new(self.heap);
+        lines.extend_with_clones(self.between(0, from))?;
         let weight = self.stand_weight(from, to, others.len());
-        next.earlier = self.remembered(weight)?;
-        next.lines.splice(from..to, others)?;
-        Ok(next)
+        lines.append(&mut others)?;
+        lines.extend_with_clones(self.between(to, self.lines.len()))?;
+        Ok(House {
+            heap: self.heap,
+            lines,
+            current,
+            files: self.files.clone()?,
+            earlier: self.remembered(weight)?,
+        })
     }
 
     /// The same with another current line.

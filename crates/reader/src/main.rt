@@ -14,7 +14,7 @@ use input::next_typed;
 use quoted::Quoted;
 use std::alloc::Global;
 use std::io;
-use std::io::{BufRead, BufReader};
+use std::io::BufReader;
 use typed::read;
 use words::Reading;
 
@@ -31,13 +31,14 @@ fn reading(heap: Global, typed: &[u8]) -> io::Result<String> {
 
 fn main(rt: HostRuntime) -> io::Result<()> {
     let heap = rt.alloc();
-    let mut lines = BufReader::new(heap, rt.stdin())?.split(heap, b'\n');
+    let mut input = BufReader::new(heap, rt.stdin())?;
+    let mut typed = Vec::new(heap);
     // Counted, since a proof has to see an end, and an input has none that is known.
     for _ in 0..u64::MAX {
-        let Some(typed) = next_typed(&mut lines)? else {
+        let Some(typed) = next_typed(&mut input, &mut typed)? else {
             break;
         };
-        rt.println(reading(heap, typed.as_slice())?)?;
+        rt.println(reading(heap, typed)?)?;
     }
     Ok(())
 }

@@ -100,10 +100,17 @@ impl fmt::Display for Extent<'_> {
 struct Given<'a>(Lines<'a>);
 
 fn show_first<W: fmt::Write>(lines: Lines<'_>, f: &mut fmt::Formatter<W>) -> fmt::Result {
-    for (n, line) in (0..SHOWN).map_while(|n| lines.nth(n)).enumerate() {
-        let before = if n == 0 { " (" } else { ", " };
+    let mut rest = lines;
+    let mut before = " (";
+    // Each begins where the one before it ended: `nth` would go back to the start for each.
+    for _ in 0..SHOWN {
+        let Some((line, behind)) = rest.split_first() else {
+            break;
+        };
         let line = Quoted(line);
         write!(f, "{before}\"{line}\"")?;
+        before = ", ";
+        rest = behind;
     }
     Ok(())
 }
