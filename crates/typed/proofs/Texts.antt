@@ -2,9 +2,8 @@
 use Rattle.std.proofs.Common.{◌≡◌, ℕ, zero, suc, ◌+◌, ◌-◌, ◌<◌, ◌≤◌, Bool, true, false, eqb, ltb, List, [], ◌∷◌, ◌++◌, length, get_or, take, drop, sym, refl, ap, ◌∙◌, subst, inl, inr, ⊎_elim, arith}
 use Rattle.std.proofs.lemmas.List.{append-nil, append_assoc, length-append, length-drop, drop-drop, drop_all, drop_more, take_more, take_all, get_or-drop}
 use Rattle.std.proofs.lemmas.List.Quantifiers.{position-Some}
-use Rattle.std.proofs.lemmas.List.Sums.{fails_before_first, sum_by-cons}
-use Rattle.std.specs.List.{count_by, position, position_or_len, slice_split, onto_first}
-use Rattle.std.proofs.lemmas.List.Splits.{slice_split-cons_no}
+use Rattle.std.proofs.lemmas.List.Sums.{fails_before_first}
+use Rattle.std.specs.List.{position, position_or_len}
 use Rattle.std.proofs.Common.{Some, None, cond, ltb-false}
 use Rattle.std.proofs.lemmas.Option.{none-some}
 use Rattle.std.proofs.lemmas.Bool.{true≢false, cases_Bool, eq-eqb, ne_eqb, eqb-true, and_parts, and_from}
@@ -52,36 +51,6 @@ one_line bs h = ap (lines_of []) (sym (append-nil bs)) ∙ run_on [] bs [] h ∙
 -- the bytes up to the first newline are the first line, and those behind it are the other lines
 pub first_line : (bs cs : List ℕ) → Unbroken bs → lines_of [] (bs ++ 10 ∷ cs) ≡ bs ∷ lines_of [] cs
 first_line bs cs h = run_on [] bs (10 ∷ cs) h ∙ at-newline bs cs
-
--- the lines are the parts between newlines
-abbrev begun : List ℕ → List (List ℕ) → List (List ℕ)
-begun l [] = l ∷ []
-begun l (m ∷ ms) = (l ++ m) ∷ ms
-
-begun_one : (l : List ℕ) (c : ℕ) (ms : List (List ℕ)) → begun (l ++ c ∷ []) ms ≡ begun l (onto_first c ms)
-begun_one l c [] = refl
-begun_one l c (m ∷ ms) = ap (λ n. n ∷ ms) (append_assoc l (c ∷ []) m)
-
-begun_first : (c : ℕ) (ms : List (List ℕ)) → begun [] (onto_first c ms) ≡ onto_first c ms
-begun_first c [] = refl
-begun_first c (m ∷ ms) = refl
-
-begun_none : (cs : List ℕ) → begun [] (slice_split (λ b. eqb b 10) cs) ≡ slice_split (λ b. eqb b 10) cs
-begun_none [] = refl
-begun_none (c ∷ cs) =
-    ⊎_elim (λ e. rw e) (λ e. rw (slice_split-cons_no (λ b. eqb b 10) c cs e) (begun_first c (slice_split (λ b. eqb b 10) cs))) (cases_Bool (eqb c 10))
-
-begun_parts : (l cs : List ℕ) → lines_of l cs ≡ begun l (slice_split (λ b. eqb b 10) cs)
-unfolding lines_of
-begun_parts l [] = ap (λ m. m ∷ []) (sym (append-nil l))
-begun_parts l (c ∷ cs) =
-    ⊎_elim
-    (λ e. rw (e) ((λ i. sym (append-nil l) i ∷ (begun_parts [] cs ∙ begun_none cs) i)))
-    (λ e. rw (e) (begun_parts (l ++ c ∷ []) cs ∙ begun_one l c (slice_split (λ b. eqb b 10) cs)))
-    (cases_Bool (eqb c 10))
-
-pub lines_parts : (cs : List ℕ) → lines_of [] cs ≡ slice_split (λ b. eqb b 10) cs
-lines_parts cs = begun_parts [] cs ∙ begun_none cs
 
 -- The line that begins at p, looked at up to i: one byte on, at its newline, and at the end of the text.
 pub walk_start : (p : ℕ) (cs : List ℕ) → lines_of (part cs p p) (drop p cs) ≡ lines_of [] (drop p cs)
@@ -149,17 +118,6 @@ unsplit cs e = by (ltb (position_or_len (λ b. eqb b 10) cs) (length cs)) refl e
     by false q r =
         let far = ltb-false _ _ q in
         sym (last_line 0 cs (omega arith) (λ k a b h. true≢false (sym (eq-eqb (get_or cs k 0) 10 h) ∙ fails_before_first (λ b. eqb b 10) cs k 0 (omega arith))))
-
--- one line more than there are newlines
-pub lines_count : (l cs : List ℕ) → 1 + count_by (λ b. eqb b 10) cs ≡ length (lines_of l cs)
-unfolding lines_of
-lines_count l [] = refl
-lines_count l (c ∷ cs) = ap (λ n. 1 + n) (sum_by-cons (λ b. cond (eqb b 10) 1 0) c cs) ∙ by (lines_count [] cs) (lines_count (l ++ c ∷ []) cs) (eqb c 10)
-  where
-    by : 1 + count_by (λ x. eqb x 10) cs ≡ length (lines_of [] cs) → 1 + count_by (λ x. eqb x 10) cs ≡ length (lines_of (l ++ c ∷ []) cs) → (b : Bool) →
-        1 + (cond b 1 0 + count_by (λ x. eqb x 10) cs) ≡ length (pick b (l ∷ lines_of [] cs) (lines_of (l ++ c ∷ []) cs))
-    by h k true = omega arith
-    by h k false = omega arith
 
 -- there is always a line, and each but the last stands before a newline
 pub some_line : (l cs : List ℕ) → 1 ≤ length (lines_of l cs)

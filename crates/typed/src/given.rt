@@ -1,5 +1,5 @@
 //! Lines given behind a command.
-ghost use Rattle.std.specs.Prelude.{◌≡◌, ℕ, [], length, take, drop, position, ◌==◌, ◌≤◌, count_by};
+ghost use Rattle.std.specs.Prelude.{◌≡◌, ℕ, [], length, take, drop, position, ◌==◌};
 ghost use Rattle.plain.specs.Command.{given, lines_of};
 ghost use Rattle.plain.specs.House.{short_all};
 ghost use Rattle.typed.specs.Meaning.{bytes, lines_in};
